@@ -1,0 +1,17 @@
+-- The laws of binary64: its order, and what keeps it.
+pub mod Order
+pub mod Round
+pub mod Total
+pub mod Whole
+pub mod Add
+pub mod Mul
+pub mod Div
+pub mod Own
+pub mod Number
+pub mod Pick
+pub mod Largest
+pub mod Capped
+pub mod Finite
+pub mod Absolute
+pub mod Next
+pub mod Facts

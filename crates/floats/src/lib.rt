@@ -1,0 +1,62 @@
+// The operations on binary64 that the Rust has beyond the operators, each equal to its definition at every value.
+ghost use mathlib.Core.Path.{_≡_};
+ghost use Rattle.floats.specs.Binary.{finite, absolute, greater, lesser, nextUp};
+ghost use lib.Ieee as Ieee;
+ghost use mathlib.Core.Bool.{false};
+
+fn infinity() -> f64
+    ensures { λ r. ⌜ r ≡ Ieee.inf false ⌝ }
+{
+    1.0 / 0.0
+}
+
+pub fn is_finite(x: f64) -> bool
+    ensures { λ r. ⌜ r ≡ finite x ⌝ }
+{
+    let top = infinity();
+    if x < top { -top < x } else { false }
+}
+
+// The sign of zero is cleared too.
+pub fn abs(x: f64) -> f64
+    ensures { λ r. ⌜ r ≡ absolute x ⌝ }
+{
+    if x < 0.0 {
+        return -x;
+    }
+    if x == 0.0 {
+        return 0.0;
+    }
+    x
+}
+
+pub fn greater(x: f64, y: f64) -> f64
+    ensures { λ r. ⌜ r ≡ greater x y ⌝ }
+{
+    if x < y { y } else { x }
+}
+
+pub fn lesser(x: f64, y: f64) -> f64
+    ensures { λ r. ⌜ r ≡ lesser x y ⌝ }
+{
+    if y < x { y } else { x }
+}
+
+pub fn next_up(x: f64) -> f64
+    ensures { λ r. ⌜ r ≡ nextUp x ⌝ }
+{
+    if x != x {
+        return x;
+    }
+    let b = f64::to_bits(x);
+    if b == 0x7ff0000000000000 {
+        return x;
+    }
+    if x == 0.0 {
+        return f64::from_bits(1);
+    }
+    if b < 0x8000000000000000 {
+        return f64::from_bits(b + 1);
+    }
+    f64::from_bits(b - 1)
+}

@@ -1,0 +1,153 @@
+-- A property of every element, and of some element, of a list; and a sum over its elements.
+use Prim.Native.Nat.{ℕ, zero, suc, _+_, _≤_, _<_}
+use mathlib.Core.Path.{_≡_, refl, sym, ap, _∙_}
+use mathlib.Core.Logic.{_⊎_, inl, inr}
+use mathlib.Core.List.{List, [], _∷_, _++_}
+use native.Mathlib.Omega.{arith}
+use native.Mathlib.Nat.{add-assoc}
+use lib.ListN.{length, take, drop, getD, take-append-drop}
+use Rattle.lists.specs.Lists.{fold, each, concatEach}
+
+module _ {A : Type 0} where
+  pub data AllOf (P : A → Type 0) : List A → Type 0 where
+    none : AllOf P []
+    also : {x : A} {xs : List A} → P x → AllOf P xs → AllOf P (x ∷ xs)
+
+  pub data AnyOf (P : A → Type 0) : List A → Type 0 where
+    here : {x : A} {xs : List A} → P x → AnyOf P (x ∷ xs)
+    there : {x : A} {xs : List A} → AnyOf P xs → AnyOf P (x ∷ xs)
+
+  -- f x₀ + f x₁ + ..
+  unfoldable pub total : (A → ℕ) → List A → ℕ
+  total f [] = 0
+  total f (x ∷ xs) = f x + total f xs
+
+  -- ---- every element
+
+  pub all-map : {P Q : A → Type 0} {xs : List A} → ((x : A) → P x → Q x) → AllOf P xs → AllOf Q xs
+  all-map f none = none
+  all-map f (also {x = x} p a) = also (f x p) (all-map f a)
+
+  pub all-zip : {P Q R : A → Type 0} {xs : List A} → ((x : A) → P x → Q x → R x) → AllOf P xs → AllOf Q xs → AllOf R xs
+  all-zip f none none = none
+  all-zip f (also {x = x} p a) (also q b) = also (f x p q) (all-zip f a b)
+
+  pub all-get : {P : A → Type 0} {xs : List A} → AllOf P xs → (i : ℕ) (d : A) → i < length xs → P (getD xs i d)
+  all-get none i d h = absurd (omega arith)
+  all-get (also p a) zero d h = p
+  all-get (also p a) (suc i) d h = all-get a i d (omega arith)
+
+  pub all-append : {P : A → Type 0} {xs ys : List A} → AllOf P xs → AllOf P ys → AllOf P (xs ++ ys)
+  all-append none b = b
+  all-append (also p a) b = also p (all-append a b)
+
+  pub all-left : {P : A → Type 0} (xs ys : List A) → AllOf P (xs ++ ys) → AllOf P xs
+  all-left [] ys a = none
+  all-left (x ∷ xs) ys (also p a) = also p (all-left xs ys a)
+
+  pub all-right : {P : A → Type 0} (xs : List A) {ys : List A} → AllOf P (xs ++ ys) → AllOf P ys
+  all-right [] a = a
+  all-right (x ∷ xs) (also p a) = all-right xs a
+
+  pub all-take : {P : A → Type 0} (n : ℕ) (xs : List A) → AllOf P xs → AllOf P (take n xs)
+  all-take {P} n xs a = all-left (take n xs) (drop n xs) (rw (take-append-drop n xs) a)
+
+  pub all-drop : {P : A → Type 0} (n : ℕ) (xs : List A) → AllOf P xs → AllOf P (drop n xs)
+  all-drop {P} n xs a = all-right (take n xs) (rw (take-append-drop n xs) a)
+
+  -- ---- some element
+
+  pub any-map : {P Q : A → Type 0} {xs : List A} → ((x : A) → P x → Q x) → AnyOf P xs → AnyOf Q xs
+  any-map f (here {x = x} p) = here (f x p)
+  any-map f (there a) = there (any-map f a)
+
+  -- what some element has, where each has another property
+  pub any-all : {P Q R : A → Type 0} {xs : List A} → ((x : A) → P x → Q x → R x) → AnyOf P xs → AllOf Q xs → AnyOf R xs
+  any-all f (here {x = x} p) (also q b) = here (f x p q)
+  any-all f (there a) (also q b) = there (any-all f a b)
+
+  pub any-left : {P : A → Type 0} {xs : List A} (ys : List A) → AnyOf P xs → AnyOf P (xs ++ ys)
+  any-left ys (here p) = here p
+  any-left ys (there a) = there (any-left ys a)
+
+  pub any-right : {P : A → Type 0} (xs : List A) {ys : List A} → AnyOf P ys → AnyOf P (xs ++ ys)
+  any-right [] a = a
+  any-right (x ∷ xs) a = there (any-right xs a)
+
+  pub any-append : {P : A → Type 0} (xs : List A) {ys : List A} → AnyOf P (xs ++ ys) → AnyOf P xs ⊎ AnyOf P ys
+  any-append [] a = inr a
+  any-append (x ∷ xs) (here p) = inl (here p)
+  any-append {P} (x ∷ xs) {ys} (there a) = deeper (any-append xs a)
+    where
+      deeper : AnyOf P xs ⊎ AnyOf P ys → AnyOf P (x ∷ xs) ⊎ AnyOf P ys
+      deeper (inl b) = inl (there b)
+      deeper (inr b) = inr b
+
+  -- in the first n or in the rest
+  pub any-cut : {P : A → Type 0} (n : ℕ) (xs : List A) → AnyOf P xs → AnyOf P (take n xs) ⊎ AnyOf P (drop n xs)
+  any-cut {P} n xs a = any-append (take n xs) (rw (take-append-drop n xs) a)
+
+  -- ---- a sum over the elements
+
+  pub total-append : (f : A → ℕ) (xs ys : List A) → total f (xs ++ ys) ≡ total f xs + total f ys
+  unfolding total
+  total-append f [] ys = omega arith
+  total-append f (x ∷ xs) ys = omega (arith, total-append f xs ys)
+
+  pub total-cut : (f : A → ℕ) (n : ℕ) (xs : List A) → total f (take n xs) + total f (drop n xs) ≡ total f xs
+  total-cut f n xs = sym (total-append f (take n xs) (drop n xs)) ∙ ap (total f) (take-append-drop n xs)
+
+  pub total-length : (xs : List A) → total (λ x. 1) xs ≡ length xs
+  unfolding total
+  total-length [] = refl
+  total-length (x ∷ xs) = omega (arith, total-length xs)
+
+  pub total-le : (f g : A → ℕ) {xs : List A} → AllOf (λ x. f x ≤ g x) xs → total f xs ≤ total g xs
+  unfolding total
+  total-le f g none = omega arith
+  total-le f g (also {xs = xs} p a) = omega (arith, total-le f g a)
+
+  -- the loop that adds
+  pub total-fold : (f : A → ℕ) (s : ℕ) (xs : List A) → fold (λ n x. n + f x) s xs ≡ s + total f xs
+  unfolding fold total
+  total-fold f s [] = omega arith
+  total-fold f s (x ∷ xs) = total-fold f (s + f x) xs ∙ add-assoc s (f x) (total f xs)
+
+  -- what each step keeps, a fold keeps
+  pub fold-keeps : {S : Type 0} {Q : A → Type 0} (P : S → Type 0) (f : S → A → S) → ((s : S) (x : A) → P s → Q x → P (f s x))
+      → (s : S) {xs : List A} → P s → AllOf Q xs → P (fold f s xs)
+  unfolding fold
+  fold-keeps P f k s p none = p
+  fold-keeps P f k s p (also {x = x} q a) = fold-keeps P f k (f s x) (k s x p q) a
+
+module _ {A B : Type 0} {P : B → Type 0} {Q : A → Type 0} where
+  pub all-each : (f : A → B) → ((x : A) → Q x → P (f x)) → {xs : List A} → AllOf Q xs → AllOf P (each f xs)
+  unfolding each
+  all-each f g none = none
+  all-each f g (also {x = x} q a) = also (g x q) (all-each f g a)
+
+  pub any-each : (f : A → B) → ((x : A) → Q x → P (f x)) → {xs : List A} → AnyOf Q xs → AnyOf P (each f xs)
+  unfolding each
+  any-each f g (here {x = x} q) = here (g x q)
+  any-each f g (there a) = there (any-each f g a)
+
+  pub all-concat : (f : A → List B) → ((x : A) → Q x → AllOf P (f x)) → {xs : List A} → AllOf Q xs → AllOf P (concatEach f xs)
+  unfolding concatEach
+  all-concat f g none = none
+  all-concat f g (also {x = x} q a) = all-append (g x q) (all-concat f g a)
+
+  pub any-concat : (f : A → List B) → ((x : A) → Q x → AnyOf P (f x)) → (xs : List A) → AnyOf Q xs → AnyOf P (concatEach f xs)
+  unfolding concatEach
+  any-concat f g (x ∷ xs) (here q) = any-left (concatEach f xs) (g x q)
+  any-concat f g (x ∷ xs) (there a) = any-right (f x) (any-concat f g xs a)
+
+module _ {A B : Type 0} (f : B → ℕ) where
+  pub total-each : (g : A → B) (xs : List A) → total f (each g xs) ≡ total (λ x. f (g x)) xs
+  unfolding total each
+  total-each g [] = refl
+  total-each g (x ∷ xs) = ap (λ (n : ℕ). f (g x) + n) (total-each g xs)
+
+  pub total-concat : (g : A → List B) (xs : List A) → total f (concatEach g xs) ≡ total (λ x. total f (g x)) xs
+  unfolding total concatEach
+  total-concat g [] = refl
+  total-concat g (x ∷ xs) = total-append f (g x) (concatEach g xs) ∙ ap (λ (n : ℕ). total f (g x) + n) (total-concat g xs)

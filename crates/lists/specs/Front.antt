@@ -1,0 +1,23 @@
+-- Lists by their elements, and a buffer whose front is overwritten while its tail stays.
+use Prim.Native.Nat.{ℕ, zero, suc}
+use mathlib.Core.List.{List, [], _∷_, _++_}
+use lib.ListN.{length, drop}
+
+module _ {A : Type 0} where
+  -- f 0, f 1 .. f (n - 1)
+  unfoldable pub tabulate : (ℕ → A) → ℕ → List A
+  tabulate f zero = []
+  tabulate f (suc n) = tabulate f n ++ f n ∷ []
+
+  -- l with xs over its front
+  unfoldable pub onto : List A → List A → List A
+  onto xs l = xs ++ drop (length xs) l
+
+  -- l with its first n elements replaced by f 0, f 1 .. f (n - 1)
+  unfoldable pub over : (ℕ → A) → ℕ → List A → List A
+  over f n l = tabulate f n ++ drop n l
+
+-- opens all of the above, for facts that are computed
+unfoldable pub fronts : Unit {0}
+unfolding tabulate onto over
+fronts = tt
