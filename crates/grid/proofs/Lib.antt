@@ -1,0 +1,10 @@
+-- The laws of the grid, its questions and its sheet.
+pub mod Answers
+pub mod Distance
+pub mod General
+pub mod Index
+pub mod Judge
+pub mod Literals
+pub mod Passed
+pub mod SheetOrder
+pub mod Sizes

@@ -1,0 +1,78 @@
+-- The grid: its cells, their places and the distances on it.
+use Prim.Native.Nat.{ℕ, _+_, _-_, _*_, _/_, min}
+use mathlib.Core.Bool.{Bool, cond, _&&_, _||_}
+use lib.Dec.{leb, ltb, eqb}
+use lib.Ieee.{Float}
+use Rattle.floats.specs.Binary.{whole, lesser, _⊕_, _⊗_, _⊘_}
+use Rattle.grid.specs.Numbers.{earth, earthCeiling, π, ½}
+use Rattle.grid.specs.declared.Row.{Row}
+use Rattle.grid.specs.declared.Cell.{Cell}
+use Rattle.grid.specs.declared.RadiusKm.{RadiusKm}
+use Rattle.grid.specs.declared.Grid.{Grid}
+use Rattle.grid.specs.declared.RowFound.{RowFound}
+use Rattle.grid.specs.declared.RowFound.the-variants as row-found
+use Rattle.grid.specs.declared.ColFound.{ColFound}
+use Rattle.grid.specs.declared.ColFound.the-variants as col-found
+use Rattle.grid.specs.declared.RadiusFound.{RadiusFound}
+use Rattle.grid.specs.declared.RadiusFound.the-variants as radius-found
+
+-- ---- the body: what every angle, arc and limit reads of the planet
+
+unfoldable pub bodyRadius : Grid → Float
+bodyRadius g = earth
+
+-- the first whole kilometre at which every circle is the whole grid
+unfoldable pub ceiling : Grid → ℕ
+ceiling g = earthCeiling
+
+-- the angle of a radius: the lesser of km / 6371.0088 and half a turn
+unfoldable pub angleOf : Grid → Float → Float
+angleOf g km = lesser (km ⊘ bodyRadius g) π
+
+-- the length of an arc
+unfoldable pub arcKm : Grid → Float → Float
+arcKm g angle = bodyRadius g ⊗ angle
+
+-- ---- cells
+
+abbrev pub cell : ℕ → ℕ → Cell
+cell row col = record { row = record { 0 = row }; col = record { 0 = col } }
+
+unfoldable pub onGrid : Grid → Cell → Bool
+onGrid g x = ltb (x .row .0) (g .height) && ltb (x .col .0) (g .width)
+
+unfoldable pub cells : Grid → ℕ
+cells g = g .width * g .height
+
+-- a cell stands before another by row, then column
+unfoldable pub before : Cell → Cell → Bool
+before x y = ltb (x .row .0) (y .row .0) || (eqb (x .row .0) (y .row .0) && ltb (x .col .0) (y .col .0))
+
+-- the row and the column of a number, and the radius of a number of kilometres
+unfoldable pub rowFound : Grid → ℕ → RowFound
+rowFound g i = cond (ltb i (g .height)) (row-found.On (record { 0 = i })) row-found.Off
+
+unfoldable pub colFound : Grid → ℕ → ColFound
+colFound g i = cond (ltb i (g .width)) (col-found.On (record { 0 = i })) col-found.Off
+
+unfoldable pub radiusFound : ℕ → RadiusFound
+radiusFound km = cond (leb km earthCeiling) (radius-found.Within (record { 0 = km })) radius-found.Beyond
+
+-- ---- places and distances
+
+-- the latitude of a row's centre: origin + (row + 0.5) × step
+unfoldable pub centreLat : Grid → Row → Float
+centreLat g row = g .«origin_lat» ⊕ (whole (row .0) ⊕ ½) ⊗ g .«lat_step»
+
+-- the largest column distance around the ring
+unfoldable pub closing : Grid → ℕ
+closing g = g .width / 2
+
+-- the column distance around a ring of that width
+unfoldable pub columnDistance : ℕ → ℕ → ℕ → ℕ
+columnDistance width a b = let d = (a - b) + (b - a) in min d (width - d)
+
+-- opens all of the above, for facts that are computed
+unfoldable pub grids : Unit {0}
+unfolding bodyRadius ceiling angleOf arcKm onGrid cells before rowFound colFound radiusFound centreLat closing columnDistance
+grids = tt

@@ -1,0 +1,6 @@
+pub mod Numbers
+pub mod Grid
+pub mod Map
+pub mod Answer
+pub mod Questions
+pub mod Sheet

@@ -1,0 +1,103 @@
+-- Questions 1 to 6, the ones that a map is asked.
+use Prim.Native.Nat.{ℕ, suc, _+_, _-_, _*_}
+use mathlib.Core.Bool.{Bool, cond, not, _&&_}
+use mathlib.Core.List.{List, [], _∷_, _++_}
+use lib.ListN.{length}
+use lib.Ieee.{Float, le, lt, eq}
+use lib.Dec.{leb, ltb, eqb}
+use Rattle.floats.specs.Binary.{whole, _⊕_, _⊖_, _⊗_, finite, absolute}
+use Rattle.lists.specs.Counted.{allBelow}
+use Rattle.grid.specs.declared.Grid.{Grid}
+use Rattle.grid.specs.Numbers.{nano, π}
+use Rattle.grid.specs.Grid.{closing, cells, cell}
+use Rattle.grid.specs.Map.{Globe, Map, angleAt, cosineAt}
+use Rattle.grid.specs.Answer.{Question, question}
+
+-- ---- 1 to 3: the grid
+
+unfoldable pub sizesInRange : Grid → Bool
+sizesInRange g = leb 1 (g .width) && leb (g .width) 180 && leb 1 (g .height) && leb (g .height) 90
+
+-- within 90 + 1e-9 of zero
+unfoldable pub latitudeInRange : Float → Bool
+latitudeInRange x = le (absolute x) (whole 90 ⊕ nano)
+
+unfoldable pub latitudesInRange : Grid → Bool
+latitudesInRange g =
+    finite (g .«origin_lat») && finite (g .«lon_step») && finite (g .«lat_step») && not (eq (g .«lat_step») (whole 0))
+    && latitudeInRange (g .«origin_lat») && latitudeInRange (g .«origin_lat» ⊕ whole (g .height) ⊗ g .«lat_step»)
+
+-- the columns make one turn: | width × |longitude step| − 360 | ≤ 1e-9
+unfoldable pub columnsClose : Grid → Bool
+columnsClose g = le (absolute (whole (g .width) ⊗ absolute (g .«lon_step») ⊖ whole 360)) nano
+
+unfoldable pub gridQuestions : Grid → List Question
+gridQuestions g = question 1 (sizesInRange g) ∷ question 2 (latitudesInRange g) ∷ question 3 (columnsClose g) ∷ []
+
+-- ---- 4 and 5: how many counts, angles and cosines
+
+unfoldable pub countsComplete : Map → Bool
+countsComplete m = eqb (length (m .counts)) (cells (m .globe .grid))
+
+unfoldable pub sheetComplete : Globe → Bool
+sheetComplete s =
+    eqb (length (s .angles)) (s .grid .height * s .grid .height * (closing (s .grid) + 1)) && eqb (length (s .cosines)) (s .grid .height)
+
+-- ---- 6: the sheet's values
+
+-- for every row, and for every pair of a centre row and a row
+unfoldable pub everyRow : Globe → (ℕ → Bool) → Bool
+everyRow s f = allBelow (s .grid .height) f
+
+unfoldable pub everyPair : Globe → (ℕ → ℕ → Bool) → Bool
+everyPair s f = everyRow s (λ c. everyRow s (f c))
+
+module _ (s : Globe) where
+  -- the angle by numbers
+  abbrev pub angle : ℕ → ℕ → ℕ → Float
+  angle c r k = angleAt s (record { 0 = c }) (record { 0 = r }) k
+
+  -- every cosine above 0 and at most 1
+  unfoldable pub cosineInRange : ℕ → Bool
+  cosineInRange r = let x = cosineAt s (record { 0 = r }) in lt (whole 0) x && le x (whole 1)
+
+  unfoldable pub cosinesInRange : Bool
+  cosinesInRange = everyRow s cosineInRange
+
+  -- every angle from 0 to half a turn
+  unfoldable pub angleInRange : ℕ → ℕ → ℕ → Bool
+  angleInRange c r k = le (whole 0) (angle c r k) && le (angle c r k) π
+
+  unfoldable pub anglesInRange : Bool
+  anglesInRange = everyPair s (λ c r. allBelow (closing (s .grid) + 1) (angleInRange c r))
+
+  -- the angle of a row to itself at offset 0 equal to 0
+  unfoldable pub ownAngleZero : Bool
+  ownAngleZero = everyRow s (λ c. eq (angle c c 0) (whole 0))
+
+  -- angles not falling as the offset grows
+  unfoldable pub angleRises : ℕ → ℕ → ℕ → Bool
+  angleRises c r k = le (angle c r k) (angle c r (k + 1))
+
+  unfoldable pub anglesRise : Bool
+  anglesRise = everyPair s (λ c r. allBelow (closing (s .grid)) (angleRises c r))
+
+  -- offset-0 angles not falling as the row moves away from the centre row: between a row and the next one south
+  unfoldable pub rowRises : ℕ → ℕ → Bool
+  rowRises c r = cond (ltb r c) (le (angle c (r + 1) 0) (angle c r 0)) (le (angle c r 0) (angle c (r + 1) 0))
+
+  unfoldable pub rowsRise : Bool
+  rowsRise = everyRow s (λ c. allBelow (s .grid .height - 1) (rowRises c))
+
+  unfoldable pub sheetInOrder : Bool
+  sheetInOrder = cosinesInRange && anglesInRange && ownAngleZero && anglesRise && rowsRise
+
+unfoldable pub mapQuestions : Map → List Question
+mapQuestions m =
+    gridQuestions (m .globe .grid)
+    ++ question 4 (countsComplete m) ∷ question 5 (sheetComplete (m .globe)) ∷ question 6 (sheetInOrder (m .globe)) ∷ []
+
+-- opens all of the above, for facts that are computed
+unfoldable pub questions : Unit {0}
+unfolding sizesInRange latitudeInRange latitudesInRange columnsClose gridQuestions countsComplete sheetComplete everyRow everyPair cosineInRange cosinesInRange angleInRange anglesInRange ownAngleZero angleRises anglesRise rowRises rowsRise sheetInOrder mapQuestions
+questions = tt

@@ -1,0 +1,104 @@
+// Rows, columns, cells and whole-kilometre radii, each a type of its own, and the grid that holds them.
+mod places;
+mod questions;
+mod sheet;
+
+pub use places::angle_of;
+pub use places::arc_km;
+pub use places::before;
+pub use places::cells;
+pub use places::closing;
+pub use places::on_grid;
+pub use places::sheet_index;
+pub use questions::columns_close;
+pub use questions::counts_complete;
+pub use questions::grid_refusal;
+pub use questions::latitudes_in_range;
+pub use questions::map_refusal;
+pub use questions::sheet_complete;
+pub use questions::sizes_in_range;
+pub use sheet::angle_at;
+pub use sheet::sheet_in_order;
+ghost use mathlib.Core.Path.{_≡_};
+ghost use Rattle.grid.specs.Grid.{rowFound, colFound, radiusFound, centreLat};
+
+pub struct Row(pub u32);
+
+pub struct Col(pub u32);
+
+pub struct Cell {
+    pub row: Row,
+    pub col: Col,
+}
+
+// A radius in whole kilometres.
+pub struct RadiusKm(pub u32);
+
+pub struct Grid {
+    pub width: u32,
+    pub height: u32,
+    pub origin_lat: f64,
+    pub lon_step: f64,
+    pub lat_step: f64,
+}
+
+pub enum RowFound {
+    On(Row),
+    Off,
+}
+
+pub enum ColFound {
+    On(Col),
+    Off,
+}
+
+pub enum RadiusFound {
+    Within(RadiusKm),
+    Beyond,
+}
+
+impl RadiusKm {
+    // The IUGG mean radius.
+    pub const EARTH_RADIUS_KM: f64 = 6371.0088;
+
+    // The first whole kilometre at which every circle is the whole grid.
+    pub const CEILING: u32 = 20016;
+
+    pub fn new(km: u32) -> RadiusFound
+        ensures { λ r. ⌜ r ≡ radiusFound km ⌝ }
+    {
+        if km <= Self::CEILING {
+            RadiusFound::Within(RadiusKm(km))
+        } else {
+            RadiusFound::Beyond
+        }
+    }
+}
+
+impl Grid {
+    pub fn row(self, index: u32) -> RowFound
+        ensures { λ r. ⌜ r ≡ rowFound self index ⌝ }
+    {
+        if index < self.height {
+            RowFound::On(Row(index))
+        } else {
+            RowFound::Off
+        }
+    }
+
+    pub fn col(self, index: u32) -> ColFound
+        ensures { λ r. ⌜ r ≡ colFound self index ⌝ }
+    {
+        if index < self.width {
+            ColFound::On(Col(index))
+        } else {
+            ColFound::Off
+        }
+    }
+    // The latitude of the row's centre.
+    pub fn centre_lat(self, row: Row) -> f64
+        ensures { λ r. ⌜ r ≡ centreLat self row ⌝ }
+    {
+        self.origin_lat + (row.0 as f64 + 0.5) * self.lat_step
+    }
+}

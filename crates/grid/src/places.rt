@@ -1,0 +1,70 @@
+// Places and distances on the grid: cells, the sheet's places, the angle of a radius and the length of an arc.
+use crate::Cell;
+use crate::Grid;
+use crate::RadiusKm;
+use crate::Row;
+ghost use mathlib.Core.Path.{_≡_};
+ghost use Rattle.grid.specs.Grid.{angleOf, arcKm, onGrid, cells, before, closing};
+ghost use Rattle.grid.specs.Map.{sheetIndex};
+ghost use Rattle.grid.specs.Sheet.{InSheet};
+
+// Half a turn in radians.
+pub const HALF_TURN: f64 = 3.141592653589793;
+
+pub fn angle_of(grid: Grid, km: f64) -> f64
+    ensures { λ r. ⌜ r ≡ angleOf grid km ⌝ }
+{
+    floats::lesser(km / RadiusKm::EARTH_RADIUS_KM, HALF_TURN)
+}
+
+pub fn arc_km(grid: Grid, angle: f64) -> f64
+    ensures { λ r. ⌜ r ≡ arcKm grid angle ⌝ }
+{
+    RadiusKm::EARTH_RADIUS_KM * angle
+}
+
+pub fn on_grid(grid: Grid, cell: Cell) -> bool
+    ensures { λ r. ⌜ r ≡ onGrid grid cell ⌝ }
+{
+    if cell.row.0 < grid.height {
+        cell.col.0 < grid.width
+    } else {
+        false
+    }
+}
+
+pub fn cells(grid: Grid) -> u64
+    ensures { λ r. ⌜ r ≡ cells grid ⌝ }
+{
+    grid.width as u64 * grid.height as u64
+}
+
+pub fn before(x: Cell, y: Cell) -> bool
+    ensures { λ r. ⌜ r ≡ before x y ⌝ }
+{
+    if x.row.0 < y.row.0 {
+        return true;
+    }
+    if x.row.0 == y.row.0 {
+        x.col.0 < y.col.0
+    } else {
+        false
+    }
+}
+
+// The largest column distance around the ring.
+pub fn closing(grid: Grid) -> u32
+    ensures { λ r. ⌜ r ≡ closing grid ⌝ }
+{
+    grid.width / 2
+}
+
+// The place of an angle in the sheet.
+pub fn sheet_index(grid: Grid, centre: Row, row: Row, offset: u32) -> usize
+    requires { ⌜ InSheet grid centre row offset ⌝ }
+    ensures { λ r. ⌜ r ≡ sheetIndex grid centre row offset ⌝ }
+{
+    let height = grid.height as usize;
+    let offsets = grid.width as usize / 2 + 1;
+    (centre.0 as usize * height + row.0 as usize) * offsets + offset as usize
+}

@@ -1,0 +1,127 @@
+// Questions 1 to 5, each on any input, and the first refusal of a grid and of a map.
+use crate::Grid;
+ghost use mathlib.Core.Path.{_≡_};
+ghost use Prim.Native.Nat.{_*_};
+ghost use mathlib.Core.List.{[]};
+ghost use lib.Dec.{eqb};
+ghost use Rattle.grid.specs.Answer.{firstNo};
+ghost use Rattle.grid.specs.Questions.{sizesInRange, latitudeInRange, latitudesInRange, columnsClose, countsComplete, sheetComplete, gridQuestions, mapQuestions};
+
+// Question 1.
+pub fn sizes_in_range(grid: Grid) -> bool
+    ensures { λ r. ⌜ r ≡ sizesInRange grid ⌝ }
+{
+    if grid.width < 1 {
+        return false;
+    }
+    if 180 < grid.width {
+        return false;
+    }
+    if grid.height < 1 {
+        return false;
+    }
+    grid.height <= 90
+}
+
+fn latitude_in_range(x: f64) -> bool
+    ensures { λ r. ⌜ r ≡ latitudeInRange x ⌝ }
+{
+    floats::abs(x) <= 90.0 + 1e-9
+}
+
+// Question 2.
+pub fn latitudes_in_range(grid: Grid) -> bool
+    ensures { λ r. ⌜ r ≡ latitudesInRange grid ⌝ }
+{
+    if !floats::is_finite(grid.origin_lat) {
+        return false;
+    }
+    if !floats::is_finite(grid.lon_step) {
+        return false;
+    }
+    if !floats::is_finite(grid.lat_step) {
+        return false;
+    }
+    if grid.lat_step == 0.0 {
+        return false;
+    }
+    if !latitude_in_range(grid.origin_lat) {
+        return false;
+    }
+    latitude_in_range(grid.origin_lat + grid.height as f64 * grid.lat_step)
+}
+
+// Question 3.
+pub fn columns_close(grid: Grid) -> bool
+    ensures { λ r. ⌜ r ≡ columnsClose grid ⌝ }
+{
+    floats::abs(grid.width as f64 * floats::abs(grid.lon_step) - 360.0) <= 1e-9
+}
+
+// Question 4.
+pub fn counts_complete(grid: Grid, counts: &[u32]) -> bool
+    ensures { λ r. ⌜ r ≡ countsComplete (record { globe = record { grid = grid; angles = []; cosines = [] }; counts = now (counts .entry) }) ⌝ }
+{
+    counts.len() as u64 == crate::cells(grid)
+}
+
+// Whether n is a × b, found without the product, which may need more than 64 bits.
+fn is_product(n: u64, a: u64, b: u64) -> bool
+    ensures { λ r. ⌜ r ≡ eqb n (a * b) ⌝ }
+{
+    if a == 0 {
+        return n == 0;
+    }
+    if n % a != 0 {
+        return false;
+    }
+    n / a == b
+}
+
+// Question 5.
+pub fn sheet_complete(grid: Grid, angles: &[f64], cosines: &[f64]) -> bool
+    ensures { λ r. ⌜ r ≡ sheetComplete (record { grid = grid; angles = now (angles .entry); cosines = now (cosines .entry) }) ⌝ }
+{
+    let height = grid.height as u64;
+    let offsets = crate::closing(grid) as u64 + 1;
+    if !is_product(angles.len() as u64, height * height, offsets) {
+        return false;
+    }
+    cosines.len() as u64 == height
+}
+
+// The number of the first of the questions 1 to 3 that is answered no, or 0.
+pub fn grid_refusal(grid: Grid) -> u32
+    ensures { λ r. ⌜ r ≡ firstNo (gridQuestions grid) ⌝ }
+{
+    if !sizes_in_range(grid) {
+        return 1;
+    }
+    if !latitudes_in_range(grid) {
+        return 2;
+    }
+    if !columns_close(grid) {
+        return 3;
+    }
+    0
+}
+
+// The number of the first of the questions 1 to 6 that is answered no, or 0.
+pub fn map_refusal(grid: Grid, counts: &[u32], angles: &[f64], cosines: &[f64]) -> u32
+    ensures { λ r. ⌜ r ≡ firstNo (mapQuestions (record { globe = record { grid = grid; angles = now (angles .entry); cosines = now (cosines .entry) }; counts = now (counts .entry) })) ⌝ }
+{
+    let refusal = grid_refusal(grid);
+    if refusal != 0 {
+        return refusal;
+    }
+    if !counts_complete(grid, counts) {
+        return 4;
+    }
+    if !sheet_complete(grid, angles, cosines) {
+        return 5;
+    }
+    if !crate::sheet_in_order(grid, angles, cosines) {
+        return 6;
+    }
+    0
+}

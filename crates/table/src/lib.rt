@@ -1,0 +1,185 @@
+// The table: prefix sums of the counts in a lent buffer, and the people of bands of rows and spans of columns by four words or six.
+ghost use mathlib.Core.Path.{_≡_};
+ghost use Prim.Native.Nat.{_+_, _*_, _-_, _/_, _<_, _≤_};
+ghost use lib.Dec.{leb};
+ghost use lib.ListN.{length};
+ghost use Rattle.lists.specs.Front.{over};
+ghost use Rattle.grid.specs.Grid.{closing};
+ghost use Rattle.table.specs.Table.{corner as cornerOf, sumsWord, sumsFit, filledSums, total as totalOf, bandPopulation};
+ghost use Rattle.table.specs.Summed.{countsMap, tableMap, Fillable, RowReady, Summed, AtCorner, OnTable, InTable, spanAround, rowSpan};
+use grid::Col;
+use grid::Grid;
+use grid::Row;
+
+// The rows from north to south, both included.
+pub struct RowBand {
+    pub north: Row,
+    pub south: Row,
+}
+
+// The columns from west eastward to east, both included; across the seam where west is the greater.
+pub struct ColSpan {
+    pub west: Col,
+    pub east: Col,
+}
+
+// Question 7, for the sums buffer. Rows and the last row apart, so that no product wraps.
+pub fn sums_fit(grid: Grid, sums: &[u64]) -> bool
+    ensures { λ r. ⌜ r ≡ sumsFit grid (now (sums .entry)) ⌝ }
+{
+    let stride = grid.width as usize + 1;
+    let rows = grid.height as usize * stride;
+    if rows <= sums.len() {
+        stride <= sums.len() - rows
+    } else {
+        false
+    }
+}
+
+fn wide(x: u32) -> u64
+    ensures { λ r. ⌜ r ≡ x ⌝ }
+{
+    x as u64
+}
+
+// The words of row 0: no cell lies above them.
+fn zero_row(sums: &mut [u64], stride: usize)
+    requires { ⌜ stride ≤ length (now sums) ⌝ }
+    ensures { λ _. ⌜ now (sums .exit) ≡ over (λ i. 0) stride (now (sums .entry)) ⌝ }
+{
+    let mut k = 0;
+    while k < stride {
+        sums[k] = 0;
+        k += 1;
+    }
+}
+
+// The words of row `row + 1`: each is the word above it and the row's counts so far.
+fn fill_row(grid: Grid, row: usize, counts: &[u32], sums: &mut [u64])
+    requires { ⌜ RowReady grid row (now counts) (now sums) ⌝ }
+    ensures { λ _. ⌜ now (sums .exit) ≡ over (sumsWord (countsMap grid (now (counts .entry)))) (row * (grid .width + 1) + (grid .width + 1) + (grid .width + 1)) (now (sums .entry)) ⌝ }
+{
+    let width = grid.width as usize;
+    let above = row * (width + 1);
+    let base = above + (width + 1);
+    let from = row * width;
+    sums[base] = 0;
+    let mut run: u64 = 0;
+    let mut col: usize = 0;
+    while col < width {
+        run += wide(counts[from + col]);
+        sums[base + 1 + col] = sums[above + 1 + col] + run;
+        col += 1;
+    }
+}
+
+// The prefix sums of the counts at the front of `sums`, whose tail is kept.
+pub fn fill_sums(grid: Grid, counts: &[u32], sums: &mut [u64])
+    requires { ⌜ Fillable grid (now counts) (now sums) ⌝ }
+    ensures { λ _. ⌜ now (sums .exit) ≡ filledSums (countsMap grid (now (counts .entry))) (now (sums .entry)) ⌝ }
+{
+    let height = grid.height as usize;
+    zero_row(sums, grid.width as usize + 1);
+    let mut row: usize = 0;
+    while row < height {
+        fill_row(grid, row, counts, sums);
+        row += 1;
+    }
+}
+
+// The word of a corner: the people above a row and west of a column, either of which may be one past the last.
+pub fn corner(grid: Grid, sums: &[u64], row: u32, col: u32) -> u64
+    requires { ⌜ Summed grid (now sums) ⌝ }
+    requires { ⌜ AtCorner grid row col ⌝ }
+    ensures { λ r. ⌜ r ≡ cornerOf (tableMap grid (now (sums .entry))) row col ⌝ }
+{
+    let stride = grid.width as usize + 1;
+    sums[row as usize * stride + col as usize]
+}
+
+// All people: the last corner.
+pub fn total(grid: Grid, sums: &[u64]) -> u64
+    requires { ⌜ Summed grid (now sums) ⌝ }
+    ensures { λ r. ⌜ r ≡ totalOf (tableMap grid (now (sums .entry))) ⌝ }
+{
+    corner(grid, sums, grid.height, grid.width)
+}
+
+// The people of the rows from north to above south, west of a column.
+fn strip(grid: Grid, sums: &[u64], north: u32, south: u32, col: u32) -> u64
+    requires { ⌜ Summed grid (now sums) ⌝ }
+    requires { ⌜ (north ≤ south) × (south ≤ grid .height) × (col ≤ grid .width) ⌝ }
+    ensures { λ r. ⌜ r ≡ cornerOf (tableMap grid (now (sums .entry))) south col - cornerOf (tableMap grid (now (sums .entry))) north col ⌝ }
+{
+    let below = corner(grid, sums, south, col);
+    let above = corner(grid, sums, north, col);
+    below - above
+}
+
+// The people of a band of rows and a span of columns: four words, or six where the span is two pieces at the seam.
+pub fn population(grid: Grid, sums: &[u64], band: RowBand, span: ColSpan) -> u64
+    requires { ⌜ Summed grid (now sums) ⌝ }
+    requires { ⌜ OnTable grid band span ⌝ }
+    ensures { λ r. ⌜ r ≡ bandPopulation (tableMap grid (now (sums .entry))) band span ⌝ }
+{
+    let north = band.north.0;
+    let south = band.south.0 + 1;
+    let west = strip(grid, sums, north, south, span.west.0);
+    let east = strip(grid, sums, north, south, span.east.0 + 1);
+    if span.west.0 <= span.east.0 {
+        return east - west;
+    }
+    let all = strip(grid, sums, north, south, grid.width);
+    east + (all - west)
+}
+
+// The west end of the columns at most `half` from a column around the ring.
+fn west_of(grid: Grid, centre: Col, half: u32) -> Col
+    requires { ⌜ (grid .width ≤ 180) × (centre .0 < grid .width) × (half < grid .width / 2) ⌝ }
+    ensures { λ r. ⌜ r ≡ spanAround (grid .width) (centre .0) half .west ⌝ }
+{
+    if half <= centre.0 {
+        Col(centre.0 - half)
+    } else {
+        Col(centre.0 + grid.width - half)
+    }
+}
+
+// Their east end.
+fn east_of(grid: Grid, centre: Col, half: u32) -> Col
+    requires { ⌜ (grid .width ≤ 180) × (centre .0 < grid .width) × (half < grid .width / 2) ⌝ }
+    ensures { λ r. ⌜ r ≡ spanAround (grid .width) (centre .0) half .east ⌝ }
+{
+    let end = centre.0 + half;
+    if end < grid.width {
+        Col(end)
+    } else {
+        Col(end - grid.width)
+    }
+}
+
+// Half the width and more: every column.
+fn full_turn(grid: Grid, half: u32) -> bool
+    ensures { λ r. ⌜ r ≡ leb (closing grid) half ⌝ }
+{
+    grid.width / 2 <= half
+}
+
+// The people of a row's columns at most `half` from the centre column around the ring. The full turn is counted once.
+pub fn row_span(grid: Grid, sums: &[u64], row: Row, centre: Col, half: u32) -> u64
+    requires { ⌜ Summed grid (now sums) ⌝ }
+    requires { ⌜ InTable grid row centre ⌝ }
+    ensures { λ r. ⌜ r ≡ rowSpan (tableMap grid (now (sums .entry))) row centre half ⌝ }
+{
+    if full_turn(grid, half) {
+        return strip(grid, sums, row.0, row.0 + 1, grid.width);
+    }
+    let west = west_of(grid, centre, half);
+    let east = east_of(grid, centre, half);
+    let band = RowBand {
+        north: row,
+        south: row,
+    };
+    let span = ColSpan { west, east };
+    population(grid, sums, band, span)
+}
