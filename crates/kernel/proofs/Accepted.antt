@@ -1,0 +1,42 @@
+-- What an accepted single-circle call knows at each of its steps.
+use Prim.Native.Nat.{ℕ, _<_, _^_}
+use mathlib.Core.Path.{_≡_, _∙_}
+use mathlib.Core.List.{List}
+use lib.ListN.{getD}
+use Rattle.floats.specs.Binary.{whole}
+use Rattle.grid.specs.declared.Cell.{Cell}
+use Rattle.grid.specs.Map.{Map}
+use Rattle.table.specs.Table.{filledSums}
+use Rattle.table.specs.Summed.{countsMap, tableMap, Fillable}
+use Rattle.table.proofs.Tables.{fillable, bare-filled, table-map, summed}
+use Rattle.kernel.specs.declared.Kernel.{Kernel}
+use Rattle.kernel.specs.Circle.{population}
+use Rattle.kernel.specs.Kernel.{kernelOf, kernelPopulation, sheetOf, OnSheet, Placed}
+use Rattle.kernel.proofs.Placing.{on-sheet, placed, circle-people}
+use Rattle.kernel.proofs.Calls.{CirclePassed, on-grid}
+
+module _ {m : Map} {sums : List ℕ} {km : ℕ} {centre : Cell} (p : CirclePassed m sums km centre) where
+  pub to-fill : Fillable (m .globe .grid) (m .counts) sums
+  to-fill = fillable m sums (p .map .grid .sizes) (p .map .counts) (p .fit)
+
+  row-on : centre .row .0 < m .globe .grid .height
+  row-on = on-grid (m .globe .grid) centre (p .on) .0
+
+  pub to-build : OnSheet (m .globe .grid) (m .globe .angles) (centre .row)
+  to-build = on-sheet m (p .map) (centre .row) row-on
+
+  -- once the sums are filled and the kernel is built
+  module _ (last : List ℕ) (filled : last ≡ filledSums (countsMap (m .globe .grid) (m .counts)) sums)
+      (k : Kernel) (is : k ≡ kernelOf (sheetOf (m .globe .grid) (m .globe .angles)) (centre .row) (whole km)) where
+    pub to-sum : ((i : ℕ) → getD (m .counts) i 0 < 2 ^ 32) → Placed (m .globe .grid) last k (centre .col)
+    to-sum small =
+        placed m (p .map) (centre .row) row-on (whole km) (centre .col) last k is
+        (summed (m .globe .grid) (m .counts) sums last to-fill filled small) (on-grid (m .globe .grid) centre (p .on) .1)
+
+    pub summed-up : kernelPopulation (tableMap (m .globe .grid) last) k (centre .col) ≡ population m (whole km) centre
+    summed-up =
+        circle-people m (p .map) (centre .row) row-on (whole km) (centre .col) last k is
+        (table-map (m .globe .grid) (m .counts) sums last to-fill filled)
+
+    pub sums-filled : last ≡ filledSums m sums
+    sums-filled = filled ∙ bare-filled m sums

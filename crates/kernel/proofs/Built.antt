@@ -1,0 +1,89 @@
+-- The kernel that the walks leave is the kernel of the row and the radius.
+use Prim.Native.Nat.{ℕ, _-_, _≤_, _<_}
+use mathlib.Core.Path.{_≡_, sym, _∙_}
+use mathlib.Core.Bool.{true, false}
+use mathlib.Core.List.{List}
+use mathlib.Core.Logic.{_⊎_, inl, inr}
+use native.Mathlib.Decide.{decLt}
+use native.Mathlib.Omega.{arith}
+use lib.ListN.{length, getD, replicate, length-replicate, getD-replicate, List·getD-eq-default}
+use lib.Ieee.{Float, eq}
+use Rattle.floats.specs.Binary.{whole}
+use Rattle.grid.specs.declared.Row.{Row}
+use Rattle.grid.specs.Grid.{angleOf}
+use Rattle.grid.specs.Map.{Globe}
+use Rattle.kernel.specs.Kernel.{rowReach, kernelOf}
+use Rattle.kernel.specs.Walk.{NorthWalked, SouthWalked, reachIn}
+use Rattle.kernel.proofs.Kernels.{made, kernel-is, reach-none, reach-off, reach-on}
+
+-- a list of zeros has 0 at every place
+zeros : (n i : ℕ) → _≡_ {A = ℕ} (getD (replicate n 0) i 0) 0
+zeros n i = elim (decLt i n) [
+  | yes p ↦ getD-replicate n i 0 0 p
+  | no p ↦ List·getD-eq-default (replicate n 0) 0 (omega (arith, length-replicate {A = ℕ} n 0))
+]
+
+module _ (s : Globe) (c : Row) (km : Float) (high : s .grid .height ≤ 90) (on : c .0 < s .grid .height) where
+  -- radius 0
+  pub built-empty : eq km (whole 0) ≡ true → made c km (c .0) (c .0) (replicate 90 0) ≡ kernelOf s c km
+  built-empty z =
+      kernel-is s c km high on (c .0) (c .0) (replicate 90 0)
+      (record {
+        north-on = omega arith;
+        end-on = omega arith;
+        on = omega arith;
+        touched = λ r h u. absurd (omega arith);
+        missed = λ r h. zeros 90 r;
+      })
+      (length-replicate {A = ℕ} 90 0) (λ r h. zeros 90 r ∙ sym (reach-none s c km r z))
+
+  -- another radius, where a row further out than one that is missed is missed
+  module _ (z : eq km (whole 0) ≡ false)
+      (beyond : (r t : ℕ) → t < s .grid .height → (c .0 ≤ r × r ≤ t) ⊎ (t ≤ r × r ≤ c .0) → reachIn s c (angleOf (s .grid) km) r ≡ 0 → reachIn s c (angleOf (s .grid) km) t ≡ 0)
+      (n e : ℕ) (mid last : List ℕ)
+      (north : NorthWalked s c (angleOf (s .grid) km) (replicate 90 0) mid n) (south : SouthWalked s c (angleOf (s .grid) km) mid last e) where
+    missed-north : (r : ℕ) → r < n → reachIn s c (angleOf (s .grid) km) r ≡ 0
+    missed-north r h =
+        let l : n ≤ c .0 = north .rows .ordered in
+        beyond (n - 1) r (omega arith) (inr (omega arith, omega arith)) (north .missed (omega arith))
+
+    missed-south : (r : ℕ) → e ≤ r → r < s .grid .height → reachIn s c (angleOf (s .grid) km) r ≡ 0
+    missed-south r h u = beyond e r u (inl (south .rows .ordered, h)) (south .missed (omega arith))
+
+    outside : (r : ℕ) → (r < n) ⊎ (e ≤ r) → getD last r 0 ≡ 0
+    outside r (inl h) =
+        let l : n ≤ c .0 = north .rows .ordered in
+        south .rows .kept r (inl (omega arith)) ∙ north .rows .kept r (inl h) ∙ zeros 90 r
+    outside r (inr h) =
+        let l : c .0 ≤ e = south .rows .ordered in
+        south .rows .kept r (inr h) ∙ north .rows .kept r (inr (omega arith)) ∙ zeros 90 r
+
+    inside : (r : ℕ) → n ≤ r → r < e → (getD last r 0 ≡ reachIn s c (angleOf (s .grid) km) r) × (0 < reachIn s c (angleOf (s .grid) km) r)
+    inside r h u = elim (decLt r (c .0)) [
+      | yes p ↦ (south .rows .kept r (inl p) ∙ north .rows .filled r h p, north .rows .touched r h p)
+      | no p ↦ (south .rows .filled r (omega arith) u, south .rows .touched r (omega arith) u)
+    ]
+
+    each : (r : ℕ) → getD last r 0 ≡ rowReach s c km r
+    each r = elim (decLt r (s .grid .height)) [
+      | no p ↦ outside r (inr (omega (arith, south .on))) ∙ sym (reach-off s c km r (omega arith))
+      | yes p ↦ elim (decLt r n) [
+        | yes w ↦ outside r (inl w) ∙ sym (reach-on s c km r p z ∙ missed-north r w)
+        | no w ↦ elim (decLt r e) [
+          | yes v ↦ inside r (omega arith) v .0 ∙ sym (reach-on s c km r p z)
+          | no v ↦ outside r (inr (omega arith)) ∙ sym (reach-on s c km r p z ∙ missed-south r (omega arith) p)
+        ]
+      ]
+    ]
+
+    pub built-walked : length last ≡ 90 → made c km n e last ≡ kernelOf s c km
+    built-walked len =
+        kernel-is s c km high on n e last
+        (record {
+          north-on = north .rows .ordered;
+          end-on = south .rows .ordered;
+          on = south .on;
+          touched = λ r h u. let i = inside r h u in omega (arith, i .0, i .1);
+          missed = outside;
+        })
+        len (λ r h. each r)

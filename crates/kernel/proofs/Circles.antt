@@ -1,0 +1,140 @@
+-- Circles as sets of cells: they grow with the radius, are the whole grid from the ceiling on, and depend on the radius's value alone.
+use Prim.Native.Nat.{ℕ, zero, suc, _^_, _≤_, _<_, zero-le}
+use mathlib.Core.Path.{_≡_}
+use mathlib.Core.Logic.{_⊎_}
+use mathlib.Core.Bool.{Bool, true, false, cond}
+use native.Mathlib.Nat.{le-refl}
+use native.Mathlib.Omega.{arith}
+use lib.Dec.{T, lit≤}
+use lib.Ieee.{Float, le, eq}
+use Rattle.floats.specs.Binary.{floats, whole}
+use Rattle.floats.proofs.Order.{le-trans}
+use Rattle.floats.proofs.Total.{lt-not-le, le-of-eq, eq-le, le-same-right}
+use Rattle.floats.proofs.Whole.{whole-le, whole-lt}
+use Rattle.lists.proofs.Bools.{is-true, of-true}
+use Rattle.grid.specs.declared.Cell.{Cell}
+use Rattle.grid.specs.declared.Grid.{Grid}
+use Rattle.grid.specs.Numbers.{π}
+use Rattle.grid.specs.Grid.{cell, ceiling, angleOf, columnDistance}
+use Rattle.grid.specs.Map.{Globe}
+use Rattle.grid.specs.Questions.{angle}
+use Rattle.grid.proofs.Distance.{distance-own, distance-closing}
+use Rattle.grid.proofs.SheetOrder.{InOrder, own-zero, angle-most, offsets-first, rows-band}
+use Rattle.kernel.specs.Circle.{angleTo, inCircle}
+use Rattle.kernel.proofs.General.{eq-same}
+use Rattle.kernel.proofs.Angle.{angle-mono, angle-whole, angle-zero, angle-ceiling}
+
+-- ---- which radii are 0
+
+zero-zero : T (eq (whole 0) (whole 0))
+unfolding floats
+zero-zero = tt
+
+-- what is at least a whole number above 0 is not 0
+pub not-zero : (km : ℕ) → 1 ≤ km → km ≤ 2 ^ 53 → (x : Float) → T (le (whole km) x) → T (eq x (whole 0)) → ⊥
+not-zero km h l x g t = lt-not-le (whole 0) (whole km) (whole-lt 0 km h l) (le-trans (whole km) x (whole 0) g (le-of-eq x (whole 0) t))
+
+pub whole-not-zero : (km : ℕ) → 1 ≤ km → km ≤ 2 ^ 53 → T (eq (whole km) (whole 0)) → ⊥
+whole-not-zero km h l = not-zero km h l (whole km) (whole-le km km (le-refl km))
+
+ceiling-not-zero : (g : Grid) (x : Float) → T (le (whole (ceiling g)) x) → T (eq x (whole 0)) → ⊥
+unfolding ceiling
+ceiling-not-zero g x h = not-zero (ceiling g) (lit≤ tt) (lit≤ tt) x h
+
+-- ---- a cell in a circle
+
+open-test : (z within : Bool) → T (cond z false within) → (T z → ⊥) × T within
+open-test true within t = absurd t
+open-test false within t = (λ n. n, t)
+
+shut-test : (z within : Bool) → (T z → ⊥) → T within → T (cond z false within)
+shut-test true within n t = absurd (n tt)
+shut-test false within n t = t
+
+module _ (s : Globe) where
+  -- the radius is not 0, and the cell's angle is at most the radius's
+  pub circle-out : (km : Float) (c x : Cell) → T (inCircle s km c x) → (T (eq km (whole 0)) → ⊥) × T (le (angleTo s c x) (angleOf (s .grid) km))
+  unfolding inCircle
+  circle-out km c x t = open-test (eq km (whole 0)) (le (angleTo s c x) (angleOf (s .grid) km)) t
+
+  pub circle-in : (km : Float) (c x : Cell) → (T (eq km (whole 0)) → ⊥) → T (le (angleTo s c x) (angleOf (s .grid) km)) → T (inCircle s km c x)
+  unfolding inCircle
+  circle-in km c x n t = shut-test (eq km (whole 0)) (le (angleTo s c x) (angleOf (s .grid) km)) n t
+
+  -- radius 0 holds nothing
+  pub circle-zero : (c x : Cell) → inCircle s (whole 0) c x ≡ false
+  unfolding inCircle
+  circle-zero c x = rw (is-true (eq (whole 0) (whole 0)) zero-zero)
+
+  -- a radius no less, and not 0, holds no less
+  pub circle-wider : (n km : Float) → T (le n km) → (T (eq km (whole 0)) → ⊥) → (c x : Cell) → T (inCircle s n c x) → T (inCircle s km c x)
+  circle-wider n km h z c x t =
+      circle-in km c x z (le-trans (angleTo s c x) (angleOf (s .grid) n) (angleOf (s .grid) km) (circle-out n c x t .1) (angle-mono (s .grid) n km h))
+
+  pub circle-grows : (n km : ℕ) → n ≤ km → km ≤ 2 ^ 53 → (c x : Cell) → T (inCircle s (whole n) c x) → T (inCircle s (whole km) c x)
+  circle-grows zero km h l c x t = absurd (circle-out (whole 0) c x t .0 zero-zero)
+  circle-grows (suc n) km h l c x t = circle-wider (whole (suc n)) (whole km) (whole-le (suc n) km h) (whole-not-zero km (omega arith) l) c x t
+
+  -- radii that compare equal have the same circles
+  pub same-radius : (x y : Float) → T (eq x y) → (c z : Cell) → inCircle s x c z ≡ inCircle s y c z
+  unfolding inCircle
+  same-radius x y e c z =
+      let both = eq-le x y e in
+      let g = s .grid in
+      rw (eq-same x y (whole 0) e, le-same-right (angleOf g x) (angleOf g y) (angle-mono g x y (both .0)) (angle-mono g y x (both .1)) (angleTo s c z))
+
+-- ---- on a sheet in order
+
+module _ (s : Globe) (q : InOrder s) (c : Cell) (C : c .row .0 < s .grid .height) where
+  -- from the ceiling on every circle is the whole grid
+  pub circle-all : (km : Float) → T (le (whole (ceiling (s .grid))) km) → (x : Cell) → x .row .0 < s .grid .height → T (inCircle s km c x)
+  unfolding angleTo
+  circle-all km h x X =
+      let g = s .grid in
+      let offset = columnDistance (g .width) (c .col .0) (x .col .0) in
+      circle-in s km c x (ceiling-not-zero g km h)
+      (le-trans (angleTo s c x) π (angleOf g km) (angle-most s q (c .row .0) C (x .row .0) X offset (distance-closing g (c .col .0) (x .col .0)))
+      (rw (angle-ceiling g) at (angle-mono g (whole (ceiling g)) km h)))
+
+  pub circle-ceiling : (x : Cell) → x .row .0 < s .grid .height → T (inCircle s (whole (ceiling (s .grid))) c x)
+  circle-ceiling x X = circle-all (whole (ceiling (s .grid))) (whole-le (ceiling (s .grid)) (ceiling (s .grid)) (le-refl (ceiling (s .grid)))) x X
+
+  -- a circle of 1 km and more holds its centre
+  pub circle-own : (km : ℕ) → 1 ≤ km → km ≤ 2 ^ 53 → T (inCircle s (whole km) c c)
+  unfolding angleTo
+  circle-own km h l =
+      let g = s .grid in
+      let here = le-of-eq (angle s (c .row .0) (c .row .0) 0) (whole 0) (own-zero s q (c .row .0) C) in
+      circle-in s (whole km) c c (whole-not-zero km h l)
+      (rw (distance-own (g .width) (c .col .0))
+      (le-trans (angle s (c .row .0) (c .row .0) 0) (whole 0) (angleOf g (whole km)) here (rw (angle-zero g) at (angle-whole g 0 km zero-le))))
+
+  module _ (km : Float) where
+    -- a row's cells in a circle are nearest to the centre's column
+    pub row-nearest : (r j k : ℕ) → r < s .grid .height → columnDistance (s .grid .width) (c .col .0) j ≤ columnDistance (s .grid .width) (c .col .0) k
+        → T (inCircle s km c (cell r k)) → T (inCircle s km c (cell r j))
+    unfolding angleTo
+    row-nearest r j k R h t =
+        let g = s .grid in
+        let o = circle-out s km c (cell r k) t in
+        let a = angleOf g km in
+        let near = columnDistance (g .width) (c .col .0) j in
+        let far = columnDistance (g .width) (c .col .0) k in
+        circle-in s km c (cell r j) (o .0)
+        (of-true (le (angle s (c .row .0) r near) a)
+        (offsets-first s q (c .row .0) C r R a near far h (distance-closing g (c .col .0) k) (is-true (le (angle s (c .row .0) r far) a) (o .1))))
+
+    -- the rows that a circle touches, each at the centre's column first, are one band around the centre's row
+    pub row-touched : (r k : ℕ) → r < s .grid .height → T (inCircle s km c (cell r k)) → T (inCircle s km c (cell r (c .col .0)))
+    row-touched r k R t = row-nearest r (c .col .0) k R (rw (distance-own (s .grid .width) (c .col .0)) zero-le) t
+
+    pub circle-band : (r t : ℕ) → t < s .grid .height → (c .row .0 ≤ r × r ≤ t) ⊎ (t ≤ r × r ≤ c .row .0)
+        → T (inCircle s km c (cell t (c .col .0))) → T (inCircle s km c (cell r (c .col .0)))
+    unfolding angleTo
+    circle-band r t h between i =
+        let e = distance-own (s .grid .width) (c .col .0) in
+        let o = circle-out s km c (cell t (c .col .0)) i in
+        let a = angleOf (s .grid) km in
+        circle-in s km c (cell r (c .col .0)) (o .0)
+        (rw e (of-true (le (angle s (c .row .0) r 0) a)
+        (rows-band s q (c .row .0) C a r t h between (is-true (le (angle s (c .row .0) t 0) a) (rw e at (o .1))))))

@@ -1,0 +1,16 @@
+pub mod General
+pub mod Angle
+pub mod Circles
+pub mod Populations
+pub mod Counts
+pub mod Reaches
+pub mod Walks
+pub mod Kernels
+pub mod Built
+pub mod Rows
+pub mod Cells
+pub mod People
+pub mod Alike
+pub mod Calls
+pub mod Placing
+pub mod Accepted

@@ -1,0 +1,54 @@
+-- `kernel::band::build`: the empty kernel at radius 0, and otherwise what the two walks leave.
+use mathlib.Core.Path.{_∙_}
+use denote.Ref.{now}
+use Rattle.grid.proofs.Literals.{literal-0}
+use Rattle.kernel.specs.Kernel.{sheetOf}
+use Rattle.kernel.proofs.Reaches.{sheet-high, sheet-beyond}
+use Rattle.kernel.proofs.Built.{built-empty, built-walked}
+use borrow.Author.Needs.{needs}
+use Rattle.kernel.proofs.band.build.Statement.{statement}
+use Rattle.kernel.proofs.band.build.Tie as tie
+
+returns : tie.Need-returns
+returns c =
+    let st = c .before .before in
+    let a = st .args in
+    built-empty (sheetOf (a .grid) (now (a .angles))) (a .row) (a .km) (sheet-high (st .pre .sheet)) (st .pre .on) (rw literal-0 at (c .if1 .taken))
+
+angle-of-requires : tie.Need-angle-of-requires
+angle-of-requires c κs = search needs
+
+slice-aggregate-walk-north : tie.Need-slice-aggregate-walk-north
+slice-aggregate-walk-north c = search needs
+
+walk-north-requires : tie.Need-walk-north-requires
+walk-north-requires c κs = search needs
+
+slice-aggregate-walk-south : tie.Need-slice-aggregate-walk-south
+slice-aggregate-walk-south c = search needs
+
+walk-south-requires : tie.Need-walk-south-requires
+walk-south-requires c κs = search needs
+
+returns-2 : tie.Need-returns-2
+returns-2 c =
+    let st = c .before .before .before .before .before .before .before .before .before in
+    let a = st .args in
+    let n = c .before .before .before .before .walk-north in
+    let w = c .before .walk-south in
+    let limit = c .before .before .before .before .before .before .angle-of in
+    built-walked (sheetOf (a .grid) (now (a .angles))) (a .row) (a .km) (sheet-high (st .pre .sheet)) (st .pre .on)
+    (rw literal-0 at (c .before .before .before .before .before .before .before .if1 .left)) (sheet-beyond (st .pre .sheet) (a .row) (st .pre .on) _)
+    _ _ _ _ (rw (limit .ensures) at (n .ensures)) (rw (limit .ensures) at (w .ensures)) (w .kept .1 .1 .1 .1 .0 ∙ n .kept .1 .1 .1 .1 .0)
+
+pub build-spec : {M : Type 1} → statement M
+build-spec =
+    tie.close
+    (tie.spec
+    returns
+    angle-of-requires
+    slice-aggregate-walk-north
+    walk-north-requires
+    slice-aggregate-walk-south
+    walk-south-requires
+    returns-2)

@@ -1,0 +1,27 @@
+-- Circles: the cells that a circle holds, and its population.
+use Prim.Native.Nat.{ℕ}
+use mathlib.Core.Bool.{Bool, false, cond}
+use lib.Ieee.{Float, le, eq}
+use Rattle.floats.specs.Binary.{whole}
+use Rattle.lists.specs.Counted.{sumBelow}
+use Rattle.grid.specs.declared.Cell.{Cell}
+use Rattle.grid.specs.Grid.{angleOf, cell, columnDistance}
+use Rattle.grid.specs.Map.{Globe, Map, angleAt, count}
+
+-- the sheet's angle from a centre to a cell: its row's, at the column distance around the ring
+unfoldable pub angleTo : Globe → Cell → Cell → Float
+angleTo s centre x = angleAt s (centre .row) (x .row) (columnDistance (s .grid .width) (centre .col .0) (x .col .0))
+
+-- a cell is in the circle of a radius around a centre; radius 0 holds nothing
+unfoldable pub inCircle : Globe → Float → Cell → Cell → Bool
+inCircle s km centre x = let within = le (angleTo s centre x) (angleOf (s .grid) km) in cond (eq km (whole 0)) false within
+
+-- the people of a circle's cells
+unfoldable pub population : Map → Float → Cell → ℕ
+population m km centre =
+    sumBelow (m .globe .grid .height) (λ r. sumBelow (m .globe .grid .width) (λ k. cond (inCircle (m .globe) km centre (cell r k)) (count m (cell r k)) 0))
+
+-- opens all of the above, for facts that are computed
+unfoldable pub circles : Unit {0}
+unfolding angleTo inCircle population
+circles = tt

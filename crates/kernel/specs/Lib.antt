@@ -1,0 +1,4 @@
+pub mod Circle
+pub mod Kernel
+pub mod Walk
+pub mod Call

@@ -1,0 +1,38 @@
+-- What the walks from the centre row outward are told, and what they leave in the array of reaches.
+use Prim.Native.Nat.{ℕ, _-_, _≤_, _<_}
+use mathlib.Core.Path.{_≡_}
+use mathlib.Core.List.{List}
+use mathlib.Core.Logic.{_⊎_}
+use lib.ListN.{getD}
+use lib.Ieee.{Float}
+use Rattle.grid.specs.declared.Row.{Row}
+use Rattle.grid.specs.declared.Grid.{Grid}
+use Rattle.grid.specs.Map.{Globe}
+use Rattle.kernel.specs.Kernel.{reach, Sheet}
+
+-- a tested sheet, a centre row and a row of the grid
+pub record PairOnSheet (g : Grid) (angles : List Float) (centre row : Row) : Type 0 where
+  pub sheet : Sheet g angles
+  pub centre-on : centre .0 < g .height
+  pub row-on : row .0 < g .height
+
+-- the values of f, none of them 0, have come into the places from start up to end, and the other places are as they were
+pub record Filled (f : ℕ → ℕ) (start end : ℕ) (was is : List ℕ) : Type 0 where
+  pub ordered : start ≤ end
+  pub filled : (i : ℕ) → start ≤ i → i < end → getD is i 0 ≡ f i
+  pub touched : (i : ℕ) → start ≤ i → i < end → 0 < f i
+  pub kept : (i : ℕ) → (i < start) ⊎ (end ≤ i) → getD is i 0 ≡ getD was i 0
+
+abbrev pub reachIn : Globe → Row → Float → ℕ → ℕ
+reachIn s centre limit row = reach s centre (record { 0 = row }) limit
+
+-- the rows from north up to the centre row are filled in, and the next one north is missed
+pub record NorthWalked (s : Globe) (centre : Row) (limit : Float) (was is : List ℕ) (north : ℕ) : Type 0 where
+  pub rows : Filled (reachIn s centre limit) north (centre .0) was is
+  pub missed : 0 < north → reachIn s centre limit (north - 1) ≡ 0
+
+-- the rows from the centre row up to end are filled in, and the next one south is missed
+pub record SouthWalked (s : Globe) (centre : Row) (limit : Float) (was is : List ℕ) (end : ℕ) : Type 0 where
+  pub rows : Filled (reachIn s centre limit) (centre .0) end was is
+  pub on : end ≤ s .grid .height
+  pub missed : end < s .grid .height → reachIn s centre limit end ≡ 0

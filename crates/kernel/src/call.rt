@@ -1,0 +1,67 @@
+// The single-circle call: it puts its questions, fills the sums and answers with the circle's population.
+use crate::CircleAnswer;
+use grid::Cell;
+use grid::Grid;
+use grid::RadiusKm;
+ghost use mathlib.Core.Path.{_≡_};
+ghost use Rattle.grid.specs.Answer.{firstNo};
+ghost use Rattle.kernel.specs.Call.{radiusInRange, circleQuestions, circleAnswer, circleCall};
+
+// Question 8, for a radius.
+pub fn radius_in_range(grid: Grid, km: u32) -> bool
+    ensures { λ r. ⌜ r ≡ radiusInRange grid km ⌝ }
+{
+    km <= RadiusKm::CEILING
+}
+
+// The number of the first question of the call that is answered no, or 0.
+fn circle_refusal(
+    grid: Grid,
+    counts: &[u32],
+    angles: &[f64],
+    cosines: &[f64],
+    sums: &[u64],
+    km: u32,
+    centre: Cell,
+) -> u32
+    ensures { λ r. ⌜ r ≡ firstNo (circleQuestions (record { globe = record { grid = grid; angles = now (angles .entry); cosines = now (cosines .entry) }; counts = now (counts .entry) }) (now (sums .entry)) km centre) ⌝ }
+{
+    let refusal = grid::map_refusal(grid, counts, angles, cosines);
+    if refusal != 0 {
+        return refusal;
+    }
+    if !table::sums_fit(grid, sums) {
+        return 7;
+    }
+    if !radius_in_range(grid, km) {
+        return 8;
+    }
+    if !grid::on_grid(grid, centre) {
+        return 8;
+    }
+    0
+}
+
+pub fn circle(
+    grid: Grid,
+    counts: &[u32],
+    angles: &[f64],
+    cosines: &[f64],
+    sums: &mut [u64],
+    km: u32,
+    centre: Cell,
+) -> CircleAnswer
+    ensures { λ r. ⌜ record {
+      answer = circleAnswer r;
+      sums = now (sums .exit);
+    } ≡ circleCall (record { globe = record { grid = grid; angles = now (angles .entry); cosines = now (cosines .entry) }; counts = now (counts .entry) }) (now (sums .entry)) km centre ⌝ }
+{
+    let refusal = circle_refusal(grid, counts, angles, cosines, sums, km, centre);
+    if refusal != 0 {
+        return CircleAnswer::Refused(refusal);
+    }
+    table::fill_sums(grid, counts, sums);
+    let kernel = crate::build(grid, angles, centre.row, km as f64);
+    let people = crate::circle_population(grid, sums, kernel, centre.col);
+    CircleAnswer::Population(people)
+}

@@ -1,0 +1,26 @@
+// Kernels of circles, and what the single-circle call answers.
+mod band;
+mod call;
+mod outward;
+
+pub use band::build;
+pub use band::circle_population;
+pub use call::circle;
+pub use call::radius_in_range;
+use grid::Row;
+pub use outward::within;
+
+// The circles of a radius around the cells of a row: in each row from north up to end, how many columns from the centre's one on either
+// side are within, the centre's own included.
+pub struct Kernel {
+    pub row: Row,
+    pub km: f64,
+    pub north: u32,
+    pub end: u32,
+    pub reach: [u8; 90],
+}
+
+pub enum CircleAnswer {
+    Population(u64),
+    Refused(u32),
+}
