@@ -1,0 +1,4 @@
+pub mod Block
+pub mod Word
+pub mod Bound
+pub mod Spacing

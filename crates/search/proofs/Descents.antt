@@ -1,0 +1,259 @@
+-- The levels of a search on their way, over plain values: the blocks left in order in the first buffer, and what is left of the levels the
+-- whole search.
+use Prim.Native.Nat.{ℕ, zero, suc, _+_, _-_, _≤_, _<_, _^_}
+use mathlib.Core.Path.{_≡_, refl, sym, ap, subst, _∙_}
+use mathlib.Core.List.{List, [], _∷_}
+use native.Mathlib.Omega.{arith}
+use lib.Ieee.{Float}
+use lib.ListN.{length, take}
+use Rattle.lists.specs.Front.{onto}
+use Rattle.lists.specs.Lists.{each, sort}
+use Rattle.lists.proofs.Folds.{length-each}
+use Rattle.lists.proofs.Fronts.{length-onto}
+use Rattle.lists.proofs.Elements.{AllOf, all-map, total}
+use Rattle.lists.proofs.Sorts.{all-sort, total-sort}
+use Rattle.grid.specs.declared.Grid.{Grid}
+use Rattle.grid.specs.Grid.{cells}
+use Rattle.grid.specs.Map.{Map}
+use Rattle.grid.proofs.Sizes.{Sizes, grid-sizes}
+use Rattle.blocks.specs.declared.Block.{Block}
+use Rattle.blocks.specs.Block.{area, byProbe, tile, Rectangle}
+use Rattle.blocks.specs.Word.{wordOf, blocksOf, wordsByProbe, written, Tiled, CanTake}
+use Rattle.blocks.specs.Word as word
+use Rattle.blocks.proofs.Tiles.{length-area, tile-rectangle}
+use Rattle.blocks.proofs.TileWords.{tile-room}
+use Rattle.blocks.proofs.Words.{rectangle-small, blocks-onto, blocks-written, blocks-sorted}
+use Rattle.search.specs.declared.Held.{Held}
+use Rattle.search.specs.declared.Held.the-variants.{Nobody}
+use Rattle.search.specs.declared.Tally.{Tally}
+use Rattle.search.specs.declared.ChunkResult.{ChunkResult}
+use Rattle.search.specs.declared.SearchResult.{SearchResult}
+use Rattle.search.specs.Level.{noTally, plus, plusStats, Outcome, level}
+use Rattle.search.specs.Search.{Levels, levels, searched}
+use Rattle.search.specs.Weight.{weight, statsWeight}
+use Rattle.search.specs.Work.{mapOf, Ready}
+use Rattle.search.specs.Buffer.{children, CanSweep, Swept, levelOf, TwoBuffers, FirstLevel, withLevel}
+use Rattle.search.proofs.Counts.{Small, level-counts}
+use Rattle.search.proofs.Levels.{after, Counted, blocks-fit, counted-first, counted-next, no-fuel, levels-none}
+use Rattle.search.proofs.Places.{Few, counted-few, cells-few}
+
+-- the words of rectangles on a grid that question 1 lets pass
+words-small : (g : Grid) → Sizes g → {bs : List Block} → AllOf (Rectangle g) bs → AllOf word.Small bs
+words-small g s rs = all-map (λ b r. rectangle-small g (omega (arith, s .columns)) (omega (arith, s .rows)) b r) rs
+
+-- ---- the first level
+
+module _ (g : Grid) (spacing : ℕ) (near far : List ℕ) (two : TwoBuffers g near far) where
+  abbrev tiles : List Block
+  tiles = tile g spacing
+
+  first-sizes : Sizes g
+  first-sizes = grid-sizes g (two .sizes)
+
+  tiles-few : length tiles ≤ cells g
+  tiles-few = tile-room g spacing (first-sizes .some-columns) (first-sizes .some-rows)
+
+  pub first-tiles : length tiles ≤ length far
+  first-tiles = omega (arith, tiles-few, two .far-room)
+
+  module _ (n : ℕ) (far′ : List ℕ) (tiled : Tiled far (each wordOf tiles) far′ n) where
+    number : n ≡ length tiles
+    number = tiled .number ∙ length-each wordOf tiles
+
+    far-size : length far′ ≡ length far
+    far-size =
+        ap (length {A = ℕ}) (tiled .words) ∙ length-onto (each wordOf tiles) far (omega (arith, length-each wordOf tiles, first-tiles))
+
+    pub first-takes : CanTake n far′ near
+    first-takes = record { words = omega (arith, number, far-size, first-tiles); room = omega (arith, number, tiles-few, two .near-room) }
+
+    pub first-is : (near′ : List ℕ) → near′ ≡ onto (sort wordsByProbe (take n far′)) near → FirstLevel g spacing near′ n
+    first-is near′ e =
+        let small = words-small g first-sizes (tile-rectangle g spacing (first-sizes .some-columns) (first-sizes .some-rows)) in
+        let there : blocksOf n far′ ≡ tiles = ap (λ (k : ℕ). blocksOf k far′) number ∙ ap (blocksOf (length tiles)) (tiled .words) ∙ blocks-onto tiles far small in
+        record {
+          number = number;
+          order = ap (blocksOf n) e ∙ blocks-sorted n far′ near (first-takes .words) ∙ ap (sort byProbe) there;
+        }
+
+-- ---- counts stay small
+
+few-light : (t : Tally) → Few t → weight t ≤ 30000000
+unfolding weight statsWeight
+few-light t f = omega (arith, f .levels, f .examined, f .pruned, f .evaluated, f .kernels, f .cells-ended)
+
+level-light : (m : Map) (km : Float) (best : Held) (bs : List Block) → AllOf (Rectangle (m .globe .grid)) bs → total area bs ≤ 16200
+    → weight (level m km best bs .tally) ≤ 100000
+unfolding weight statsWeight
+level-light m km best bs rs h =
+    let c = level-counts m km best bs rs in
+    omega (arith, c .cells, c .levels, c .examined, c .either, c .kernels, length-area (m .globe .grid) rs)
+
+-- ---- one level more
+
+levels-step : (fuel : ℕ) (m : Map) (km : Float) (s : Levels) (bs : List Block) → 0 < length bs
+    → levels (suc fuel) m km s bs ≡ levels fuel m km (after m km s bs) (children (level m km (s .held) bs))
+unfolding levels
+levels-step fuel m km s [] h = absurd (omega arith)
+levels-step fuel m km s (b ∷ bs) h = refl
+
+level-sorted : (m : Map) (km : Float) (best : Held) (bs sorted : List Block) → sorted ≡ sort byProbe bs → levelOf m km best sorted ≡ level m km best bs
+unfolding levelOf level
+level-sorted m km best bs sorted e = rw e
+
+-- ---- the loop
+
+module _ (gr : Grid) (angles cosines : List Float) (sums : List ℕ) (km : Float) (spacing : ℕ) (near₀ far₀ : List ℕ) where
+  abbrev the-map : Map
+  the-map = mapOf gr angles cosines sums
+
+  abbrev levelsOf : SearchResult → Levels
+  levelsOf found = record { held = found .held; tally = found .tally }
+
+  pub record Descending (near far : List ℕ) (live : ℕ) (found : SearchResult) : Type 0 where
+    pub near-size : length near ≡ length near₀
+    pub far-size : length far ≡ length far₀
+    pub near-room : cells gr ≤ length near
+    pub far-room : cells gr ≤ length far
+    pub left : List Block
+    pub fuel : ℕ
+    pub number : live ≡ length left
+    pub order : blocksOf live near ≡ sort byProbe left
+    pub counted : Counted gr fuel (found .tally) left
+    pub whole : levels fuel the-map km (levelsOf found) left ≡ searched the-map km spacing
+
+  module _ (t : Ready gr angles cosines sums) where
+    s : Sizes gr
+    s = grid-sizes gr (t .sizes)
+
+    few-cells : cells gr ≤ 16200
+    few-cells = cells-few gr s
+
+    pub descend-start : cells gr ≤ length near₀ → cells gr ≤ length far₀ → (n : ℕ) → FirstLevel gr spacing near₀ n
+        → Descending near₀ far₀ n (record { held = Nobody; tally = noTally })
+    unfolding searched
+    descend-start p q n f =
+        record {
+          near-size = refl;
+          far-size = refl;
+          near-room = p;
+          far-room = q;
+          left = tile gr spacing;
+          fuel = gr .width + gr .height;
+          number = f .number;
+          order = f .order;
+          counted = counted-first gr spacing (s .some-columns) (s .some-rows);
+          whole = refl;
+        }
+
+    module _ (near far : List ℕ) (live : ℕ) (found : SearchResult) (d : Descending near far live found) where
+      all : AllOf (Rectangle gr) (d .left)
+      all = all-map (λ b x. x .rectangle) (d .counted .small)
+
+      area-few : total area (d .left) ≤ cells gr
+      area-few = omega (arith, d .counted .cells-all)
+
+      pub descend-words : live ≤ length near
+      descend-words = omega (arith, d .number, blocks-fit gr (d .fuel) (found .tally) (d .left) (d .counted), d .near-room)
+
+      pub descend-sweeps : CanSweep gr (blocksOf live near) far 0
+      descend-sweeps =
+          rw (d .order)
+          (record {
+            rectangles = all-sort byProbe (d .left) all;
+            narrow = omega (arith, total-sort byProbe area (d .left), area-few, few-cells);
+            room = omega (arith, total-sort byProbe area (d .left), area-few, d .far-room);
+          })
+
+      module _ (some : 0 < live) (r : ChunkResult) (far′ : List ℕ) (swept : Swept (levelOf the-map km (found .held) (blocksOf live near)) far 0 far′ r) where
+        abbrev o : Outcome
+        o = level the-map km (found .held) (d .left)
+
+        is : levelOf the-map km (found .held) (blocksOf live near) ≡ o
+        is = level-sorted the-map km (found .held) (d .left) (blocksOf live near) (d .order)
+
+        outcome : Swept o far 0 far′ r
+        outcome = subst (λ (x : Outcome). Swept x far 0 far′ r) is swept
+
+        pub descend-light : weight (found .tally) + weight (r .tally) ≤ 2 ^ 31
+        descend-light =
+            rw (outcome .counts)
+            (omega (
+              arith,
+              few-light (found .tally) (counted-few gr (d .fuel) (found .tally) (d .left) s (d .counted)),
+              level-light the-map km (found .held) (d .left) all (omega (arith, area-few, few-cells)),
+            ))
+
+        -- a level is left while a block is
+        fuelled : (n : ℕ) (bs : List Block) → 0 < length bs → Counted gr n (found .tally) bs → 0 < n
+        fuelled zero [] h c = absurd (omega arith)
+        fuelled zero (b ∷ bs) h c = absurd (no-fuel gr (found .tally) b bs c)
+        fuelled (suc n) bs h c = omega arith
+
+        abbrev fewer : ℕ
+        fewer = d .fuel - 1
+
+        some-left : 0 < length (d .left)
+        some-left = omega (arith, d .number)
+
+        fuel-is : d .fuel ≡ suc fewer
+        fuel-is = omega (arith, fuelled (d .fuel) (d .left) some-left (d .counted))
+
+        counted-after : Counted gr fewer (plus (found .tally) (o .tally)) (children o)
+        counted-after =
+            counted-next the-map km (found .held) fewer (found .tally) (d .left) (subst (λ (n : ℕ). Counted gr n (found .tally) (d .left)) fuel-is (d .counted))
+
+        live-is : r .live ≡ length (children o)
+        live-is = omega (arith, outcome .written .place, length-each wordOf (children o))
+
+        live-few : r .live ≤ cells gr
+        live-few = omega (arith, live-is, blocks-fit gr fewer (plus (found .tally) (o .tally)) (children o) counted-after)
+
+        module _ (kept : length far′ ≡ length far) where
+          pub descend-takes : CanTake (r .live) far′ near
+          descend-takes = record { words = omega (arith, live-few, d .far-room); room = omega (arith, live-few, d .near-room) }
+
+          pub descend-less : gr .width + gr .height - withLevel found r .tally .stats .levels < gr .width + gr .height - found .tally .stats .levels
+          unfolding withLevel plus plusStats
+          descend-less =
+              rw (outcome .counts)
+              (omega (
+                arith,
+                level-counts the-map km (found .held) (d .left) all .levels,
+                d .counted .levels-all,
+                fuel-is,
+              ))
+
+          pub descend-next : (near′ : List ℕ) → length near′ ≡ length near → near′ ≡ onto (sort wordsByProbe (take (r .live) far′)) near
+              → Descending near′ far′ (r .live) (withLevel found r)
+          unfolding withLevel blocksOf each
+          descend-next near′ same e =
+              let small = words-small gr s (all-map (λ b x. x .rectangle) (counted-after .small)) in
+              let k-is : r .live ≡ 0 + length (children o) = omega (arith, live-is) in
+              let there : blocksOf (r .live) far′ ≡ children o =
+              ap (λ (k : ℕ). blocksOf k far′) k-is ∙ ap (blocksOf (0 + length (children o))) (outcome .written .words)
+              ∙ blocks-written 0 (children o) far small (omega arith) in
+              record {
+                near-size = same ∙ d .near-size;
+                far-size = kept ∙ d .far-size;
+                near-room = omega (arith, d .near-room);
+                far-room = omega (arith, d .far-room);
+                left = children o;
+                fuel = fewer;
+                number = live-is;
+                order = ap (blocksOf (r .live)) e ∙ blocks-sorted (r .live) far′ near (descend-takes .words) ∙ ap (sort byProbe) there;
+                counted = rw (outcome .counts) counted-after;
+                whole =
+                    rw (outcome .counts, outcome .held)
+                    (sym (levels-step fewer the-map km (levelsOf found) (d .left) some-left)
+                    ∙ ap (λ (n : ℕ). levels n the-map km (levelsOf found) (d .left)) (sym fuel-is) ∙ d .whole);
+              }
+
+      pub descend-done : live ≤ 0 → levelsOf found ≡ searched the-map km spacing
+      descend-done h =
+          sym (levels-none (d .fuel) the-map km (levelsOf found)) ∙ ap (levels (d .fuel) the-map km (levelsOf found)) (sym (nothing-left (d .left) (omega (arith, d .number))))
+          ∙ d .whole
+        where
+          nothing-left : (bs : List Block) → length bs ≡ 0 → bs ≡ []
+          nothing-left [] e = refl
+          nothing-left (b ∷ bs) e = absurd (omega arith)

@@ -1,0 +1,108 @@
+-- `search::sweep::chunk`. Invariant: the work is the definition's over the blocks passed, and their children are written.
+use Rattle.search.proofs.OneBlock.{ready-sheet}
+use lib.ListN.{length}
+use Prim.Native.Nat.{_-_, _<_}
+use mathlib.Core.Path.{subst}
+use native.Mathlib.Omega.{arith}
+use denote.Ref.{now}
+use Rattle.search.specs.declared.Held.{Held}
+use Rattle.search.specs.Level.{chunk}
+use Rattle.search.specs.Work.{mapOf}
+use Rattle.search.specs.Buffer.{blocksFrom, Swept}
+use Rattle.search.proofs.Sweeps.{Sweeping, start-held, start-own, sweep-start, sweep-examines, sweep-room, sweep-next, sweep-done}
+use borrow.Author.Needs.{needs}
+use Rattle.search.proofs.sweep.chunk.Statement.{statement}
+use Rattle.search.proofs.sweep.chunk.Tie as tie
+
+abbrev Inv-loop : tie.InvT-loop
+Inv-loop grid angles cosines sums near start end km far₀ live work₀ at₀ i₀ far work at i =
+    Sweeping grid angles cosines sums near start end km (work₀ .held) far₀ live far work at i
+
+abbrev μ-loop : tie.MeasureT-loop
+μ-loop grid angles cosines sums near start end km far₀ live work₀ at₀ i₀ far work at i = end - i
+
+started-requires : tie.Need-started-requires Inv-loop μ-loop
+started-requires c κs = ready-sheet _ _ _ _ (c .before .before .before .before .before .pre .0)
+
+loop-holds : tie.Need-loop-holds Inv-loop μ-loop
+loop-holds c =
+    let st = c .before .before .before .before .before .before in
+    let a = st .args in
+    let w = c .started .result in
+    sweep-start _ _ _ _ _ _ _ _ _ _ _ (st .pre .0) (st .pre .1 .0) (st .pre .1 .1) w
+    (start-own _ _ _ (a .best) w (c .started .ensures))
+
+mul-from-word : tie.Need-mul-from-word Inv-loop μ-loop
+mul-from-word c =
+    let st = c .before .before .before .before .before .before .before .before in
+    let h : c .before .loop .i < length (now (st .args .near)) = omega (arith, st .pre .1 .0 .words, c .loop-test .taken) in
+    search needs
+
+shared-slice-read-from-word : tie.Need-shared-slice-read-from-word Inv-loop μ-loop
+shared-slice-read-from-word c = search needs
+
+from-word-requires : tie.Need-from-word-requires Inv-loop μ-loop
+from-word-requires c κs = search needs
+
+examine-requires : tie.Need-examine-requires Inv-loop μ-loop
+examine-requires c κs =
+    let st = c .before .before .before .before .before .before .before .before .before .before in
+    let l = c .before .before .before .loop in
+    rw (c .from-word .ensures)
+    (sweep-examines _ _ _ _ _ _ _ _ _ _ _ (st .pre .0) (st .pre .1 .0) (st .pre .1 .1)
+    (l .far) (l .work) (l .at) (l .i) (l .inv) (c .before .before .loop-test .taken))
+
+write-children-requires : tie.Need-write-children-requires Inv-loop μ-loop
+write-children-requires c κs =
+    let st = c .before .before .before .before .before .before .before .before .before .before .before .before .before in
+    let l = c .before .before .before .before .before .before .loop in
+    rw (c .before .before .before .from-word .ensures)
+    (sweep-room _ _ _ _ _ _ _ _ _ _ _ (st .pre .0) (st .pre .1 .0) (st .pre .1 .1)
+    (l .far) (l .work) (l .at) (l .i) (l .inv) (c .before .before .before .before .before .loop-test .taken))
+
+add-i : tie.Need-add-i Inv-loop μ-loop
+add-i c = omega (arith, c .before .before .before .before .before .before .before .before .loop-test .taken, c .before .before .before .before .before .before .before .before .before .before .before .before .before .before .before .before .fits .end .fits)
+
+loop-less : tie.Need-loop-less Inv-loop μ-loop
+loop-less c = search needs
+
+loop-again : tie.Need-loop-again Inv-loop μ-loop
+loop-again c =
+    let st = c .before .before .before .before .before .before .before .before .before .before .before .before .before .before .before .before in
+    let l = c .before .before .before .before .before .before .before .before .before .loop in
+    let b = c .before .before .before .before .before .before .from-word .ensures in
+    sweep-next _ _ _ _ _ _ _ _ _ _ _ (st .pre .0) (st .pre .1 .0) (st .pre .1 .1)
+    (l .far) (l .work) (l .at) (l .i) (l .inv) (c .before .before .before .before .before .before .before .before .loop-test .taken) (c .before .before .before .before .before .examine .result) (rw b at (c .before .before .before .before .before .examine .ensures)) _ (c .before .before .write-children .result) (rw b at (c .before .before .write-children .ensures))
+
+same-length : tie.Need-same-length Inv-loop μ-loop
+same-length c = search needs
+
+returns : tie.Need-returns Inv-loop μ-loop
+returns c =
+    let st = c .before .before .before .before .before .before .before .before .before in
+    let a = st .args in
+    let l = c .before .before .loop in
+    let w = c .before .before .before .started .result in
+    subst (λ (h : Held). Swept (chunk (mapOf (a .grid) (now (a .angles)) (now (a .cosines)) (now (a .sums))) (a .km) h (blocksFrom (a .start) (a .end) (now (a .near)))) (now (a .far)) (a .live) (l .far) (record { held = l .work .held; tally = l .work .tally; live = l .at }))
+    (start-held _ _ _ (a .best) w (c .before .before .before .started .ensures))
+    (sweep-done _ _ _ _ _ _ _ _ _ _ _ (st .pre .0) (st .pre .1 .0) (st .pre .1 .1)
+    (l .far) (l .work) (l .at) (l .i) (l .inv) (c .before .loop-test .left))
+
+pub chunk-spec : {M : Type 1} → statement M
+chunk-spec =
+    tie.close
+    (tie.spec
+    Inv-loop
+    μ-loop
+    started-requires
+    loop-holds
+    mul-from-word
+    shared-slice-read-from-word
+    from-word-requires
+    examine-requires
+    write-children-requires
+    add-i
+    loop-less
+    loop-again
+    same-length
+    returns)

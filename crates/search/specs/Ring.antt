@@ -1,0 +1,71 @@
+-- The ring of four cells of document 01, and its marked facts about the search.
+use Prim.Native.Nat.{ℕ}
+use mathlib.Core.Path.{_≡_}
+use mathlib.Core.Bool.{true, false}
+use mathlib.Core.List.{List, [], _∷_}
+use lib.ListN.{replicate}
+use lib.IntN.{pos}
+use lib.Ieee.{Float, fin}
+use Rattle.floats.specs.Binary.{whole, decimal}
+use Rattle.grid.specs.declared.Grid.{Grid}
+use Rattle.grid.specs.Grid.{cell}
+use Rattle.grid.specs.Map.{Globe, Map}
+use Rattle.grid.specs.Answer.{firstNo, Answer, answered}
+use Rattle.grid.specs.Questions.{mapQuestions}
+use Rattle.search.specs.declared.MostPopulous.{MostPopulous}
+use Rattle.blocks.specs.declared.Spacing.the-variants.{Cells}
+use Rattle.search.specs.Candidate.{candidateOf, northWest}
+use Rattle.search.specs.Level.{stats, tally, noTally}
+use Rattle.search.specs.Search.{mostPopulous}
+use Rattle.blocks.specs.Spacing.{initialSpacing}
+use Rattle.search.specs.Call.{Buffers, searchCall}
+
+-- G 4 1 45.0 90.0 -90.0, offset 1 a quarter turn, offset 2 half a turn, cosine 1
+unfoldable pub ringGlobe : Globe
+ringGlobe =
+    record {
+      grid = record {
+        width = 4;
+        height = 1;
+        «origin_lat» = fin false 45 (pos 0);
+        «lon_step» = fin false 45 (pos 1);
+        «lat_step» = fin true 45 (pos 1);
+      };
+      angles = whole 0 ∷ decimal 15707963267948966 16 ∷ decimal 3141592653589793 15 ∷ [];
+      cosines = whole 1 ∷ [];
+    }
+
+unfoldable pub ring : Map
+ring = record { globe = ringGlobe; counts = 5 ∷ 1 ∷ 7 ∷ 3 ∷ [] }
+
+-- the same with nobody in it
+unfoldable pub emptyRing : Map
+emptyRing = record { globe = ringGlobe; counts = 0 ∷ 0 ∷ 0 ∷ 0 ∷ [] }
+
+-- lent buffers of just the sizes that question 7 asks for
+unfoldable pub ringBuffers : Buffers
+ringBuffers = record { sums = replicate 10 0; near = replicate 4 0; far = replicate 4 0 }
+
+-- a search of the ring with spacing 4
+unfoldable pub ringSearch : ℕ → Answer MostPopulous
+ringSearch km = searchCall ring (Cells 4) km ringBuffers .answer
+
+pub record RingSearches : Type 0 where
+  pub accepted : firstNo (mapQuestions ring) ≡ 0
+  -- the line `most`: 10,008 km, cell (0, 3), 15 people, 3 levels, 7 examined, 2 pruned, 5 evaluated, 17 kernels, 2 cells pruned, 2 settled
+  pub most-line : ringSearch 10008 ≡ answered (mostPopulous 10008 (candidateOf (cell 0 3) 15) (tally (stats 3 7 2 5 17) 2 2))
+  -- radius 10,007: column 2, 7 people
+  pub at-10007 : ringSearch 10007 ≡ answered (mostPopulous 10007 (candidateOf (cell 0 2) 7) (tally (stats 3 7 3 4 17) 3 1))
+  -- radius 0: cell (0, 0), all counts 0
+  pub at-0 : ringSearch 0 ≡ answered (mostPopulous 0 (northWest 0) noTally)
+  -- radius 20,016: column 0, 16 people, examined 7, pruned 0
+  pub at-20016 : ringSearch 20016 ≡ answered (mostPopulous 20016 (candidateOf (cell 0 0) 16) (tally (stats 3 7 0 7 17) 0 4))
+  -- automatic spacing
+  pub spacing-10007 : initialSpacing (ringGlobe .grid) (whole 10007) ≡ 3
+  pub spacing-10008 : initialSpacing (ringGlobe .grid) (whole 10008) ≡ 1
+  pub spacing-20016 : initialSpacing (ringGlobe .grid) (whole 20016) ≡ 4
+
+-- opens the ring, for facts that are computed
+unfoldable pub rings : Unit {0}
+unfolding ringGlobe ring emptyRing ringBuffers ringSearch
+rings = tt

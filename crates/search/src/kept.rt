@@ -1,0 +1,59 @@
+// A chunk's kernels: kept while row and radius stay, and counted where one is built.
+use grid::Grid;
+use grid::Row;
+use kernel::Kernel;
+ghost use mathlib.Core.Path.{_≡_};
+ghost use mathlib.Core.Bool.{not, _&&_};
+ghost use lib.Ieee.{eq};
+ghost use lib.Dec.{eqb};
+ghost use Rattle.lists.specs.Counted.{one};
+ghost use Rattle.kernel.specs.Kernel.{kernelOf, sheetOf, OnSheet};
+ghost use Rattle.search.specs.Work.{OwnKernel};
+
+pub(crate) fn same_row(row: Row, next: Row) -> bool
+    ensures { λ r. ⌜ r ≡ eqb (row .0) (next .0) ⌝ }
+{
+    row.0 == next.0
+}
+
+pub(crate) fn same_radius(km: f64, next: f64) -> bool
+    ensures { λ r. ⌜ r ≡ eq km next ⌝ }
+{
+    km == next
+}
+
+pub(crate) fn same_kernel(row: Row, km: f64, next: Row, wanted: f64) -> bool
+    ensures { λ r. ⌜ r ≡ (eqb (row .0) (next .0) && eq km wanted) ⌝ }
+{
+    if same_row(row, next) {
+        same_radius(km, wanted)
+    } else {
+        false
+    }
+}
+
+// A kernel counts as built where it is not the one at hand.
+pub(crate) fn built(same: bool) -> u64
+    ensures { λ r. ⌜ r ≡ one (not same) ⌝ }
+{
+    if same { 0 } else { 1 }
+}
+
+// The kernel of a row and radius: the one at hand where it has that row and radius, otherwise a new one.
+pub(crate) fn kept(grid: Grid, angles: &[f64], held: Kernel, row: Row, km: f64) -> Kernel
+    requires { ⌜ OnSheet grid (now angles) row ⌝ }
+    requires { ⌜ OwnKernel grid (now angles) held ⌝ }
+    ensures { λ k. ⌜ k ≡ kernelOf (sheetOf grid (now (angles .entry))) row km ⌝ }
+{
+    if same_kernel(held.row, held.km, row, km) {
+        let reach = held.reach;
+        return Kernel {
+            row,
+            km,
+            north: held.north,
+            end: held.end,
+            reach,
+        };
+    }
+    kernel::build(grid, angles, row, km)
+}
