@@ -1,0 +1,6 @@
+pub mod Entries
+pub mod Laws
+pub mod Places
+pub mod Whole
+pub mod Putting
+pub mod Calls

@@ -1,0 +1,29 @@
+-- Each way out by its tests.
+use mathlib.Core.Path.{sym, _∙_}
+use borrow.Author.Tests.{not-true, not-false}
+use borrow.Author.Needs.{needs}
+use Rattle.ledger.specs.Ledger.{entryInBounds}
+use Rattle.ledger.proofs.judge.entry_in_bounds.Statement.{statement}
+use Rattle.ledger.proofs.judge.entry_in_bounds.Tie as tie
+
+below-ceiling-requires : tie.Need-below-ceiling-requires
+below-ceiling-requires c κs = search needs
+
+returns : tie.Need-returns
+unfolding entryInBounds
+returns c = rw (sym (c .before .below-ceiling .ensures) ∙ not-true _ (c .if1 .taken))
+
+on-grid-requires : tie.Need-on-grid-requires
+on-grid-requires c κs = search needs
+
+returns-2 : tie.Need-returns-2
+unfolding entryInBounds
+returns-2 c = rw (sym (c .before .before .before .before .before .before .below-ceiling .ensures) ∙ not-false _ (c .before .before .before .before .before .if1 .left), sym (c .before .on-grid .ensures) ∙ not-true _ (c .if2 .taken))
+
+returns-3 : tie.Need-returns-3
+unfolding entryInBounds
+returns-3 c = rw (sym (c .before .before .before .before .before .before .before .below-ceiling .ensures) ∙ not-false _ (c .before .before .before .before .before .before .if1 .left), sym (c .before .before .on-grid .ensures) ∙ not-false _ (c .before .if2 .left))
+
+pub entry-in-bounds-spec : {M : Type 1} → statement M
+entry-in-bounds-spec =
+    tie.close (tie.spec below-ceiling-requires returns on-grid-requires returns-2 returns-3)

@@ -1,0 +1,89 @@
+-- Invariant: question 11 is left to the entries from i on, the first of them not below least.
+use Prim.Native.Nat.{_-_, _≤_, _<_, min}
+use mathlib.Core.Path.{_≡_, sym, _∙_}
+use native.Mathlib.Omega.{arith}
+use native.Mathlib.Nat.{min-eq-left}
+use lib.ListN.{drop}
+use borrow.Author.Tests.{not-true, not-false, leb-true}
+use borrow.Author.Needs.{needs}
+use Rattle.grid.specs.Grid.{ceiling}
+use Rattle.ledger.specs.Ledger.{capacity, entries, ledgerInOrder}
+use Rattle.ledger.proofs.Whole.{places-whole}
+use Rattle.ledger.proofs.Places.{orderFrom, from-end, order-counted, order-beyond, order-next, order-stop, order-end, km-below}
+use Rattle.ledger.proofs.judge.ledger_in_order.Statement.{statement}
+use Rattle.ledger.proofs.judge.ledger_in_order.Tie as tie
+
+abbrev Inv-loop : tie.InvT-loop
+Inv-loop grid ledger len least₀ i₀ least i = (i ≤ len) × (len ≤ capacity) × (ledgerInOrder grid ledger ≡ orderFrom grid least (drop i (entries ledger)))
+
+abbrev μ-loop : tie.MeasureT-loop
+μ-loop grid ledger len least₀ i₀ least i = len - i
+
+counted-requires : tie.Need-counted-requires Inv-loop μ-loop
+counted-requires c κs = search needs
+
+returns : tie.Need-returns Inv-loop μ-loop
+returns c = sym (order-beyond (c .before .before .args .grid) (c .before .before .args .t2) (sym (c .before .counted .ensures) ∙ not-true _ (c .if1 .taken)))
+
+loop-holds : tie.Need-loop-holds Inv-loop μ-loop
+loop-holds c =
+    let fits = sym (c .before .counted .ensures) ∙ not-false _ (c .if1 .left) in
+    (omega arith, leb-true _ _ fits, order-counted (c .before .before .args .grid) (c .before .before .args .t2) fits)
+
+mul-entry : tie.Need-mul-entry Inv-loop μ-loop
+mul-entry c = search needs
+
+element-copy-out-entry : tie.Need-element-copy-out-entry Inv-loop μ-loop
+element-copy-out-entry c = search needs
+
+follows-requires : tie.Need-follows-requires Inv-loop μ-loop
+follows-requires c κs = search needs
+
+returns-2 : tie.Need-returns-2 Inv-loop μ-loop
+returns-2 c =
+    let l = c .before .before .before .before .before .before .before .args .t2 in
+    let whole = places-whole l _ (c .before .before .before .before .before .before .before .good .1 .0) in
+    let inside : c .before .before .before .before .loop .i < min (l .len) capacity = rw (min-eq-left (c .before .before .before .before .loop .inv .1)) (c .before .before .before .loop-test .taken) in
+    sym (c .before .before .before .before .loop .inv .2 ∙ order-stop l (c .before .before .before .before .loop .i) _ inside whole (c .before .before .before .before .before .before .before .args .grid) (c .before .before .before .before .loop .least) (sym (c .before .follows .ensures) ∙ not-true _ (c .if2 .taken)))
+
+add-least : tie.Need-add-least Inv-loop μ-loop
+unfolding ceiling
+add-least c = omega (arith, km-below _ (c .before .before .before .before .before .loop .least) _ (sym (c .before .before .follows .ensures) ∙ not-false _ (c .before .if2 .left)))
+
+add-i : tie.Need-add-i Inv-loop μ-loop
+add-i c = search needs
+
+loop-less : tie.Need-loop-less Inv-loop μ-loop
+loop-less c = search needs
+
+loop-again : tie.Need-loop-again Inv-loop μ-loop
+loop-again c =
+    let l = c .before .before .before .before .before .before .before .before .args .t2 in
+    let whole = places-whole l _ (c .before .before .before .before .before .before .before .before .good .1 .0) in
+    let inside : c .before .before .before .before .before .loop .i < min (l .len) capacity = rw (min-eq-left (c .before .before .before .before .before .loop .inv .1)) (c .before .before .before .before .loop-test .taken) in
+    (omega arith, c .before .before .before .before .before .loop .inv .1, c .before .before .before .before .before .loop .inv .2 ∙ order-next l (c .before .before .before .before .before .loop .i) _ inside whole (c .before .before .before .before .before .before .before .before .args .grid) (c .before .before .before .before .before .loop .least) (sym (c .before .before .follows .ensures) ∙ not-false _ (c .before .if2 .left)))
+
+returns-3 : tie.Need-returns-3 Inv-loop μ-loop
+returns-3 c =
+    let l = c .before .before .before .before .args .t2 in
+    let none = from-end l (c .before .loop .i) (places-whole l _ (c .before .before .before .before .good .1 .0)) (rw (min-eq-left (c .before .loop .inv .1)) (c .loop-test .left)) in
+    sym (c .before .loop .inv .2 ∙ order-end (c .before .before .before .before .args .grid) (c .before .loop .least) _ none)
+
+pub ledger-in-order-spec : {M : Type 1} → statement M
+ledger-in-order-spec =
+    tie.close
+    (tie.spec
+    Inv-loop
+    μ-loop
+    counted-requires
+    returns
+    loop-holds
+    mul-entry
+    element-copy-out-entry
+    follows-requires
+    returns-2
+    add-least
+    add-i
+    loop-less
+    loop-again
+    returns-3)

@@ -1,0 +1,3 @@
+pub mod Ledger
+pub mod Call
+pub mod Places

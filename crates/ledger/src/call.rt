@@ -1,0 +1,68 @@
+// The put call: its questions in order, then the put; by value, and over a ledger that is lent.
+use crate::Entry;
+use crate::Got;
+use crate::Ledger;
+use crate::PutAnswer;
+use crate::PutResult;
+use grid::Grid;
+ghost use mathlib.Core.Path.{_≡_};
+ghost use Rattle.grid.specs.Answer.{firstNo};
+ghost use Rattle.ledger.specs.Ledger.{get};
+ghost use Rattle.ledger.specs.Call.{placeFor, putQuestions, putCall, putAnswer};
+
+// Question 12: an entry of the kilometre to replace, or a free place.
+fn place_for(ledger: Ledger, km: u32) -> bool
+    ensures { λ r. ⌜ r ≡ placeFor ledger (get ledger km) ⌝ }
+{
+    match crate::get(ledger, km) {
+        Got::Circle(_) => true,
+        Got::Nothing => crate::places_free(ledger, 1),
+    }
+}
+
+// The number of the first of the questions 1 to 3, 11 and 12 that is answered no, or 0.
+fn put_refusal(grid: Grid, ledger: Ledger, entry: Entry) -> u32
+    ensures { λ r. ⌜ r ≡ firstNo (putQuestions grid ledger entry) ⌝ }
+{
+    let refusal = grid::grid_refusal(grid);
+    if 0 < refusal {
+        return refusal;
+    }
+    if !crate::ledger_in_order(grid, ledger) {
+        return 11;
+    }
+    if !crate::entry_in_bounds(grid, entry) {
+        return 11;
+    }
+    if !place_for(ledger, entry.km.0) {
+        return 12;
+    }
+    0
+}
+
+// The put by value.
+pub fn put_entry(grid: Grid, ledger: Ledger, entry: Entry) -> PutResult
+    ensures { λ r. ⌜ record { answer = putAnswer (r .answer); ledger = r .ledger } ≡ putCall grid ledger entry ⌝ }
+{
+    let refusal = put_refusal(grid, ledger, entry);
+    if 0 < refusal {
+        return PutResult {
+            answer: PutAnswer::Refused(refusal),
+            ledger,
+        };
+    }
+    let next = crate::put(ledger, entry);
+    PutResult {
+        answer: PutAnswer::Done,
+        ledger: next,
+    }
+}
+
+// The put that the game calls: it lends its ledger, and the call changes it.
+pub fn put_lent(ledger: &mut Ledger, grid: Grid, entry: Entry) -> PutAnswer
+    ensures { λ r. ⌜ record { answer = putAnswer r; ledger = now (ledger .exit) } ≡ putCall grid (now (ledger .entry)) entry ⌝ }
+{
+    let result = put_entry(grid, *ledger, entry);
+    *ledger = result.ledger;
+    result.answer
+}

@@ -1,0 +1,47 @@
+// The ledger of best circles by whole kilometre: get, put, the questions that judge it, and the put call.
+mod call;
+mod judge;
+mod store;
+
+pub use call::put_entry;
+pub use call::put_lent;
+use grid::RadiusKm;
+pub use judge::entry_in_bounds;
+pub use judge::ledger_in_order;
+pub use judge::places_free;
+use search::Candidate;
+pub use store::fresh;
+pub use store::get;
+pub use store::put;
+
+// The best circle at a radius.
+pub struct Entry {
+    pub km: RadiusKm,
+    pub centre: Candidate,
+}
+
+// The first len places hold the entries; the others hold anything.
+pub struct Ledger {
+    pub len: usize,
+    pub places: [Entry; Ledger::CAPACITY],
+}
+
+impl Ledger {
+    pub const CAPACITY: usize = 512;
+}
+
+pub enum Got {
+    Circle(Candidate),
+    Nothing,
+}
+
+pub enum PutAnswer {
+    Done,
+    Refused(u32),
+}
+
+// A put's answer beside the ledger after it.
+pub struct PutResult {
+    pub answer: PutAnswer,
+    pub ledger: Ledger,
+}

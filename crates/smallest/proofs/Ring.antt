@@ -1,0 +1,25 @@
+-- The nine marked facts, computed from the definitions.
+use mathlib.Core.Path.{refl}
+use Rattle.search.proofs.Ring.{ring-open, ring-searches}
+use Rattle.ledger.specs.Ledger.{ledgers}
+use Rattle.smallest.specs.Climb.{climbs}
+use Rattle.smallest.specs.Probes.{probes}
+use Rattle.smallest.specs.Smallest.{smallests}
+use Rattle.smallest.specs.Call.{smallestCalls}
+use Rattle.smallest.specs.Ring.{MarkedFacts, ringLines}
+
+-- all that a smallest-radius call is made of beside a search, for facts that are computed
+unfoldable pub smallest-open : Unit {0}
+unfolding ledgers climbs probes smallests smallestCalls ringLines
+smallest-open = tt
+
+pub marked-facts : MarkedFacts
+unfolding ring-open smallest-open
+marked-facts =
+    record {
+      searches = ring-searches;
+      least-line = λ places. refl;
+      share-1 = λ places. refl;
+      nobody-line = λ places. refl;
+      nobody-ambiguity = λ places. refl;
+    }

@@ -1,0 +1,250 @@
+-- The loop of a run: what it keeps from probe to probe, and the answer where it ends.
+use Prim.Native.Nat.{ℕ, _+_, _-_, _^_, _≤_, _<_}
+use mathlib.Core.Path.{_≡_, refl, sym, ap, _∙_}
+use mathlib.Core.List.{List}
+use mathlib.Core.Bool.{Bool, true, false, cond, true≢false}
+use native.Mathlib.Omega.{arith}
+use lib.Ieee.{Float}
+use lib.ListN.{length}
+use Rattle.floats.specs.Binary.{whole}
+use Rattle.lists.proofs.Bools.{cases, is-true}
+use Rattle.grid.specs.declared.Grid.{Grid}
+use Rattle.grid.specs.Grid.{ceiling, cell}
+use Rattle.grid.specs.Map.{Map}
+use Rattle.grid.proofs.Sizes.{Sizes, grid-sizes}
+use Rattle.table.specs.Table.{total}
+use Rattle.blocks.specs.declared.Spacing.{Spacing}
+use Rattle.blocks.proofs.General.{of-on-grid}
+use Rattle.search.specs.declared.Candidate.{Candidate}
+use Rattle.search.specs.Candidate.{northWest}
+use Rattle.search.specs.Level.{noStats}
+use Rattle.search.specs.Search.{search}
+use Rattle.search.specs.Weight.{statsWeight}
+use Rattle.search.specs.Work.{mapOf}
+use Rattle.ledger.specs.declared.Ledger.{Ledger}
+use Rattle.ledger.specs.Ledger.{ledgerInOrder, placesFree}
+use Rattle.ledger.proofs.Laws.{places-free}
+use Rattle.smallest.specs.declared.Bracket.{Bracket}
+use Rattle.smallest.specs.declared.RunState.{RunState}
+use Rattle.smallest.specs.declared.Target.{Target}
+use Rattle.smallest.specs.Climb.{Ended, climb, climbRadii}
+use Rattle.smallest.specs.Probes.{Run, targetPersons, reaches, probed, latest, smallestRun}
+use Rattle.smallest.specs.Smallest.{Settled, target, shareOf, predicateSlackPersons, smallestAt, concluded, smallest}
+use Rattle.smallest.specs.Call.{mostRadii}
+use Rattle.smallest.specs.Next.{bracketStart, bracketClosed, nextRadius, bracketNext}
+use Rattle.smallest.specs.State.{begun, stateAfter, probesOf, radiiOf, InOrder, answerBy, settledBy}
+use Rattle.smallest.specs.Probing.{CanProbe, CanRun, Ran}
+use Rattle.smallest.proofs.General.{ceiling-least, ceiling-most}
+use Rattle.smallest.proofs.NextRadii.{Stage, stage-start, stage-open, left, left-start, stage-next, left-reached, left-short}
+use Rattle.smallest.proofs.Traces.{starting, lastKm}
+use Rattle.smallest.proofs.States.{Tracks, tracks-begun, tracks-next}
+use Rattle.smallest.proofs.Kept.{SearchSound, in-order-next}
+use Rattle.smallest.proofs.Probes.{people-exact, ready-sound}
+
+-- ---- the next bracket
+
+next-low : (cap : ℕ) (c : Bracket) (b : Bool) → bracketNext cap c b .low ≡ cond b (c .low) (nextRadius c + 1)
+unfolding bracketNext
+next-low cap c true = refl
+next-low cap c false = cases (c .reached) (λ e. rw e) (λ e. rw e)
+
+next-unreached : (cap : ℕ) (c : Bracket) (b : Bool) → bracketNext cap c b .reached ≡ false → (b ≡ false) × (c .reached ≡ false)
+unfolding bracketNext
+next-unreached cap c true e = absurd (true≢false e)
+next-unreached cap c false e = (refl, cases (c .reached) (λ r. absurd (true≢false (rw r at e))) (λ r. r))
+
+-- ---- the state at the start
+
+begun-in-order : (g : Grid) → Sizes g → (people : ℕ) → people ≤ 2 ^ 53 → (l : Ledger) → ledgerInOrder g l ≡ true → placesFree l mostRadii ≡ true → InOrder g (begun people l)
+unfolding begun noStats statsWeight radiiOf northWest
+begun-in-order g sizes people exact l o r =
+    record {
+      ledger = o;
+      room = omega (arith, places-free l mostRadii r);
+      light = omega arith;
+      radii = omega arith;
+      found =
+          record {
+            on = is-true _ (of-on-grid g (cell 0 0) (record { row = omega (arith, sizes .some-rows); col = omega (arith, sizes .some-columns) }));
+            exact = exact;
+          };
+    }
+
+-- the answer and the ledger of a run that has ended, given whether the circle is the whole grid
+abbrev settledWith : Map → Float → Bracket → RunState → Bool → Settled
+settledWith m share c s covers =
+    record {
+      answer = record {
+        «radius_km» = record { 0 = c .low };
+        centre = s .found;
+        target = target m share;
+        «share_achieved» = shareOf (s .found .population) (total m);
+        «short_below» = s .short;
+        «covers_whole_grid» = covers;
+        «predicate_slack_persons» = predicateSlackPersons (m .globe .grid) (whole (total m));
+        ambiguity = s .ambiguity;
+        «tolerance_persons» = whole 0;
+        stats = s .stats;
+      };
+      ledger = s .ledger;
+    }
+
+-- ---- the loop
+
+module _ (m : Map) (spacing : Spacing) (persons slack : Float) (people : ℕ) (l : Ledger) where
+  -- the definition's run
+  abbrev pub whole-run : Ended Run Candidate
+  whole-run = climb (probed m spacing) latest (reaches persons) (starting l) 0 (climbRadii (lastKm m))
+
+  -- what is left is the whole, and the state tracks it
+  pub record Running (s : RunState) (c : Bracket) : Type 0 where
+    pub run : Run
+    pub fuel : ℕ
+    pub tracks : Tracks persons slack (c .low) run s
+    pub same : whole-run ≡ left (probed m spacing) latest (reaches persons) (lastKm m) fuel c run (s .found)
+    pub stage : Stage (lastKm m) (probesOf s) fuel c
+    pub order : InOrder (m .globe .grid) s
+    pub unfound : c .reached ≡ false → s .found ≡ northWest people
+
+  pub running-start : Sizes (m .globe .grid) → people ≤ 2 ^ 53 → ledgerInOrder (m .globe .grid) l ≡ true → placesFree l mostRadii ≡ true → Running (begun people l) bracketStart
+  unfolding begun bracketStart
+  running-start sizes exact o r =
+      let least = ceiling-least (m .globe .grid) in
+      let most = ceiling-most (m .globe .grid) in
+      record {
+        run = starting l;
+        fuel = 15;
+        tracks = tracks-begun persons slack people l;
+        same = sym (left-start (probed m spacing) latest (reaches persons) (lastKm m) (omega arith) (omega arith) (starting l) (northWest people));
+        stage = stage-start (lastKm m) (omega arith) (omega arith);
+        order = begun-in-order (m .globe .grid) sizes people exact l o r;
+        unfound = λ e. refl;
+      }
+
+  module _ (s : RunState) (c : Bracket) (i : Running s c) where
+    -- a bracket that is not closed leaves a probe to make
+    pub running-open : bracketClosed c ≡ false → (nextRadius c < ceiling (m .globe .grid)) × (probesOf s < mostRadii)
+    running-open o =
+        let x = stage-open (lastKm m) (probesOf s) (i .fuel) c (i .stage) o in
+        (omega (arith, x .0, ceiling-least (m .globe .grid)), x .1)
+
+    pub running-next : bracketClosed c ≡ false → SearchSound (m .globe .grid) (search m spacing (nextRadius c))
+        → (s′ : RunState) (c′ : Bracket) → s′ ≡ stateAfter m spacing persons slack s (nextRadius c) → c′ ≡ bracketNext (lastKm m) c (s′ .reached)
+        → Running s′ c′ × (probesOf s′ ≡ probesOf s + 1)
+    running-next o sound s′ c′ e f =
+        let km = nextRadius c in
+        let r′ = probed m spacing (i .run) km in
+        let at = running-open o in
+        let kept = in-order-next (m .globe .grid) persons slack s km (i .order) m spacing (at .1) (at .0) sound in
+        let t = tracks-next persons slack (c .low) (i .run) s (i .tracks) m spacing km in
+        let b = stateAfter m spacing persons slack s km .reached in
+        let n = stage-next (probed m spacing) latest (reaches persons) (lastKm m) (probesOf s) (i .fuel) (i .run) (s .found) c b (i .stage) o (sym (t .reached)) in
+        rw (f, e) (
+          record {
+            run = r′;
+            fuel = n .fuel-left;
+            tracks = rw (next-low (lastKm m) c b) (t .tracks);
+            same = i .same ∙ rw (t .found) (n .same);
+            stage = rw (kept .1) (n .stage);
+            order = kept .0;
+            unfound = λ u. let no = next-unreached (lastKm m) c b u in t .found ∙ (rw (no .0) (i .unfound (no .1)));
+          },
+          kept .1,
+        )
+
+    -- ---- the end
+
+    module _ (share : Float) (p : persons ≡ targetPersons m share) (q : slack ≡ predicateSlackPersons (m .globe .grid) (whole (total m))) (k : people ≡ total m) where
+      the-run : smallestRun m spacing share l ≡ whole-run
+      unfolding smallestRun
+      the-run = rw p
+
+      -- each field from what the state tracks
+      fields : (km : ℕ) (centre : Candidate) (covers : Bool) → c .low ≡ km → s .found ≡ centre
+          → settledWith m share c s covers ≡ record { answer = smallestAt m share (i .run .trace) km centre covers; ledger = i .run .ledger }
+      unfolding smallestAt
+      fields km centre covers e f =
+          let t : Tracks (targetPersons m share) (predicateSlackPersons (m .globe .grid) (whole (total m))) km (i .run) s = rw (p, q, e) at (i .tracks) in
+          rw (e, f, t .ledger, t .short, t .ambiguous, t .stats)
+
+      -- THE ANSWER OF A RUN THAT HAS ENDED
+      pub running-end : bracketClosed c ≡ true → settledBy m share c s ≡ smallest m spacing share l
+      unfolding smallest concluded settledBy answerBy
+      running-end o =
+          cases (c .reached)
+          (λ r.
+          let ends = the-run ∙ i .same ∙ left-reached (probed m spacing) latest (reaches persons) (lastKm m) (probesOf s) (i .fuel) (i .run) (s .found) c (i .stage) o r in
+          rw (ends, r) (fields (c .low) (s .found) _ refl refl))
+          (λ r.
+          let short = left-short (probed m spacing) latest (reaches persons) (lastKm m) (probesOf s) (i .fuel) (i .run) (s .found) c (i .stage) o r in
+          let ends = the-run ∙ i .same ∙ short .0 in
+          let top : c .low ≡ ceiling (m .globe .grid) = omega (arith, short .1, ceiling-least (m .globe .grid)) in
+          rw (ends, r) (fields (ceiling (m .globe .grid)) (northWest (total m)) true top (rw (← k) (i .unfound r))))
+
+-- ---- the loop's own terms
+
+module _ {g : Grid} {angles cosines : List Float} {sums near far : List ℕ} {t : Target} {slack : Float} {people : ℕ} {l : Ledger}
+    (can : CanRun g angles cosines sums near far t slack people l) (spacing : Spacing) {s₀ : RunState} (b : s₀ ≡ begun people l) where
+  -- the run of the loop
+  abbrev pub Looping : RunState → Bracket → Type 0
+  Looping s c = Running (mapOf g angles cosines sums) spacing (t .persons) slack people (s₀ .ledger) s c
+
+  same-ledger : s₀ .ledger ≡ l
+  unfolding begun
+  same-ledger = rw b
+
+  people-few : people ≤ 2 ^ 53
+  people-few = rw (can .people-are) (people-exact g angles cosines sums (can .search .ready))
+
+  pub loop-starts : {c₀ : Bracket} → c₀ ≡ bracketStart → Looping s₀ c₀
+  unfolding begun
+  loop-starts e =
+      rw (same-ledger, e, b)
+      (running-start (mapOf g angles cosines sums) spacing (t .persons) slack people l (grid-sizes g (can .search .ready .sizes)) people-few (can .ledger) (can .room))
+
+  module _ {s : RunState} {c : Bracket} (i : Looping s c) (o : bracketClosed c ≡ false) where
+    at : (nextRadius c < ceiling g) × (probesOf s < mostRadii)
+    at = running-open (mapOf g angles cosines sums) spacing (t .persons) slack people (s₀ .ledger) s c i o
+
+    pub loop-probes : {km : ℕ} → km ≡ nextRadius c → {near′ far′ : List ℕ} → length near′ ≡ length near → length far′ ≡ length far
+        → CanProbe g angles cosines sums near′ far′ s km
+    loop-probes e {near′} {far′} n f =
+        record {
+          search =
+              record {
+                ready = can .search .ready;
+                buffers =
+                    record {
+                      sizes = can .search .ready .sizes;
+                      near-room = omega (arith, can .search .buffers .near-room);
+                      far-room = omega (arith, can .search .buffers .far-room);
+                    };
+              };
+          order = i .order;
+          few = at .1;
+          low = rw e (at .0);
+        }
+
+    pub loop-fits : nextRadius c + 1 < 2 ^ 32
+    unfolding ceiling
+    loop-fits = omega (arith, at .0)
+
+    pub loop-goes-on : {km last : ℕ} {s′ : RunState} {c′ : Bracket} → km ≡ nextRadius c → last ≡ lastKm (mapOf g angles cosines sums)
+        → s′ ≡ stateAfter (mapOf g angles cosines sums) spacing (t .persons) slack s km → c′ ≡ bracketNext last c (s′ .reached)
+        → Looping s′ c′ × (probesOf s′ ≡ probesOf s + 1)
+    loop-goes-on {s′ = s′} {c′ = c′} e k f h =
+        running-next (mapOf g angles cosines sums) spacing (t .persons) slack people (s₀ .ledger) s c i o (ready-sound g angles cosines sums (can .search .ready) spacing (nextRadius c))
+        s′ c′ (rw (← e) f) (rw (← k) h)
+
+    pub loop-falls : (s′ : RunState) → probesOf s′ ≡ probesOf s + 1 → mostRadii - probesOf s′ < mostRadii - probesOf s
+    loop-falls s′ e = omega (arith, at .1)
+
+  pub loop-ends : {s : RunState} {c : Bracket} → Looping s c → bracketClosed c ≡ true → Ran (mapOf g angles cosines sums) spacing (t .share) l (record { bracket = c; state = s })
+  unfolding target
+  loop-ends {s} {c} i o =
+      let m = mapOf g angles cosines sums in
+      let persons : t .persons ≡ targetPersons m (t .share) = ap (λ (x : Target). x .persons) (can .target) in
+      let all : t .total ≡ whole (total m) = ap (λ (x : Target). x .total) (can .target) in
+      let width : slack ≡ predicateSlackPersons g (whole (total m)) = rw (← all) (can .slack-is) in
+      let ends = running-end m spacing (t .persons) slack people (s₀ .ledger) s c i (t .share) persons width (can .people-are) o in
+      record { same = rw same-ledger at ends; found = i .order .found }

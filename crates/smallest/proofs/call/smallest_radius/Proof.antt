@@ -1,0 +1,92 @@
+-- `smallest::call::smallest_radius`: refused with nothing written, or accepted, filled and settled.
+use Rattle.smallest.specs.Call.{smallestQuestions}
+use Rattle.search.specs.Call.{Buffers}
+use Rattle.grid.specs.Answer.{firstNo}
+use Rattle.grid.specs.Map.{Map}
+use mathlib.Core.Path.{_≡_}
+use Rattle.grid.specs.Answer.{shown}
+use Rattle.smallest.proofs.SmallestCalls.{SmallestPassed, smallest-passed, smallest-refused, smallest-answered, to-fill, to-settle, sums-filled, settled-map}
+use Rattle.smallest.specs.Call.{smallestAnswer}
+use denote.Ref.{now}
+use mathlib.Core.Path.{sym, _∙_}
+use borrow.Author.Needs.{needs}
+use Rattle.smallest.proofs.call.smallest_radius.Statement.{statement}
+use Rattle.smallest.proofs.call.smallest_radius.Tie as tie
+
+abbrev given : tie.Start → Map
+given st =
+    record {
+      globe = record { grid = st .args .grid; angles = now (st .args .angles); cosines = now (st .args .cosines) };
+      counts = now (st .args .counts);
+    }
+
+abbrev lent : tie.Start → Buffers
+lent st = record { sums = now (st .args .sums); near = now (st .args .near); far = now (st .args .far) }
+
+-- past the questions
+abbrev start : tie.Else1 → tie.Start
+start e = e .before .before .before .before .before .before .before .before .before .before .before
+
+asked-none : (e : tie.Else1) → firstNo (smallestQuestions (given (start e)) (start e .args .spacing) (start e .args .share) (start e .args .ledger) (lent (start e))) ≡ 0
+asked-none e = sym (e .before .smallest-refusal .ensures) ∙ e .if1 .left
+
+passed : (e : tie.Else1) → SmallestPassed (given (start e)) (start e .args .spacing) (start e .args .share) (start e .args .ledger) (lent (start e))
+passed e = smallest-passed _ _ _ _ _ (asked-none e)
+
+smallest-refusal-requires : tie.Need-smallest-refusal-requires
+smallest-refusal-requires c κs = search needs
+
+same-length : tie.Need-same-length
+same-length c = search needs
+
+same-length-2 : tie.Need-same-length-2
+same-length-2 c = search needs
+
+same-length-3 : tie.Need-same-length-3
+same-length-3 c = search needs
+
+returns : tie.Need-returns
+unfolding smallestAnswer shown
+returns c =
+    let asked = c .before .smallest-refusal in
+    smallest-refused _ _ _ _ _ (asked .result) (asked .ensures) (c .if1 .taken)
+
+fill-sums-requires : tie.Need-fill-sums-requires
+fill-sums-requires c κs =
+    to-fill (passed (c .before))
+
+settle-requires : tie.Need-settle-requires
+settle-requires c κs =
+    to-settle (passed (c .before .before .before .before .before .before .before)) _ (c .before .before .before .before .before .fill-sums .ensures) (λ i. c .before .before .before .before .before .before .before .before .before .before .before .before .before .before .before .before .before .shared-slice-known .given i .fits)
+
+same-length-4 : tie.Need-same-length-4
+same-length-4 c = search needs
+
+same-length-5 : tie.Need-same-length-5
+same-length-5 c = search needs
+
+same-length-6 : tie.Need-same-length-6
+same-length-6 c = search needs
+
+returns-2 : tie.Need-returns-2
+returns-2 c =
+    let e = c .before .before .before .before .before .before .before .before .before .before .before .before in
+    let filled = c .before .before .before .before .before .before .before .before .before .before .fill-sums in
+    smallest-answered _ _ _ _ _ (c .before .before .before .before .settle .result) _ _ _ (asked-none e) (settled-map (passed e) _ (filled .ensures) (c .before .before .before .before .settle .ensures))
+    (sums-filled (passed e) _ (filled .ensures)) (search needs) (search needs)
+
+pub smallest-radius-spec : {M : Type 1} → statement M
+smallest-radius-spec =
+    tie.close
+    (tie.spec
+    smallest-refusal-requires
+    same-length
+    same-length-2
+    same-length-3
+    returns
+    fill-sums-requires
+    settle-requires
+    same-length-4
+    same-length-5
+    same-length-6
+    returns-2)

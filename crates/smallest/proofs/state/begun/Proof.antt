@@ -1,0 +1,14 @@
+-- The code is the definition.
+use mathlib.Core.Path.{refl}
+use Rattle.smallest.specs.State.{begun}
+use Rattle.search.specs.Candidate.{northWest}
+use Rattle.search.specs.Level.{noStats}
+use Rattle.smallest.proofs.state.begun.Statement.{statement}
+use Rattle.smallest.proofs.state.begun.Tie as tie
+
+returns : tie.Need-returns
+unfolding begun noStats northWest
+returns c = refl
+
+pub begun-spec : {M : Type 1} → statement M
+begun-spec = tie.close (tie.spec returns)

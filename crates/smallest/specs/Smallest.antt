@@ -1,0 +1,108 @@
+-- The smallest radius: the fields of its answer, from the end of a run.
+use Prim.Native.Nat.{ℕ, _+_, min}
+use mathlib.Core.Bool.{Bool, true, cond, not, _&&_}
+use mathlib.Core.List.{List, [], _∷_}
+use lib.Ieee.{Float, le}
+use lib.Dec.{eqb}
+use Rattle.floats.specs.Binary.{whole, _⊕_, _⊖_, _⊗_, _⊘_, absolute, nextUp}
+use Rattle.lists.specs.Counted.{allBelow, max}
+use Rattle.grid.specs.declared.Grid.{Grid}
+use Rattle.grid.specs.declared.Row.{Row}
+use Rattle.grid.specs.Grid.{ceiling, cell}
+use Rattle.grid.specs.Numbers.{ε}
+use Rattle.grid.specs.Map.{Globe, Map}
+use Rattle.table.specs.Table.{total}
+use Rattle.kernel.specs.Circle.{inCircle}
+use Rattle.search.specs.declared.Candidate.{Candidate}
+use Rattle.blocks.specs.declared.Spacing.{Spacing}
+use Rattle.search.specs.Candidate.{northWest}
+use Rattle.ledger.specs.declared.Ledger.{Ledger}
+use Rattle.smallest.specs.declared.Ambiguity.{Ambiguity}
+use Rattle.smallest.specs.declared.Ambiguity.the-variants as ambiguity-case
+use Rattle.smallest.specs.declared.ShortBelow.{ShortBelow}
+use Rattle.smallest.specs.declared.ShortBelow.the-variants as short-case
+use Rattle.smallest.specs.declared.Smallest.{Smallest}
+use Rattle.smallest.specs.declared.Target.{Target}
+use Rattle.smallest.specs.Climb.{Ended, allShort, reachedAt}
+use Rattle.smallest.specs.Probes.{Probe, Run, targetPersons, reaches, smallestRun, evaluatedIn, reusedIn, statsOf}
+
+unfoldable pub target : Map → Float → Target
+target m share = record { share = share; persons = targetPersons m share; total = whole (total m) }
+
+-- a population as a share of a total, 0 where there is nobody
+unfoldable pub shareOf : ℕ → ℕ → Float
+shareOf people all = let share = whole people ⊘ whole all in cond (eqb all 0) (whole 0) share
+
+-- the probe that fell short one kilometre below the answer, else absent
+unfoldable pub shortBelow : Float → ℕ → List Probe → ShortBelow
+shortBelow persons km [] = short-case.Absent
+shortBelow persons km (p ∷ ps) =
+    let rest = shortBelow persons km ps in
+    cond (eqb (p .km + 1) km && not (reaches persons (p .centre))) (short-case.Witness (record { 0 = p .km }) (p .centre .population)) rest
+
+-- rows × 4 × ulp + rows × EPSILON × total, left to right
+unfoldable pub predicateSlackPersons : Grid → Float → Float
+predicateSlackPersons g all =
+    let rows = whole (g .height) in
+    let ulp = nextUp all ⊖ all in
+    rows ⊗ whole 4 ⊗ ulp ⊕ rows ⊗ ε ⊗ all
+
+-- | population − target | is at most the slack
+unfoldable pub withinSlack : Float → Float → Candidate → Bool
+withinSlack persons slack c = le (absolute (whole (c .population) ⊖ persons)) slack
+
+unfoldable pub widened : Ambiguity → ℕ → Ambiguity
+widened ambiguity-case.Absent km = ambiguity-case.Radii (record { 0 = km }) (record { 0 = km }) 1
+widened (ambiguity-case.Radii low high n) km = ambiguity-case.Radii (record { 0 = min (low .0) km }) (record { 0 = max (high .0) km }) (n + 1)
+
+-- the lowest and the highest kilometre and the number of probes within the slack, absent when there is none
+unfoldable pub ambiguity : Float → Float → List Probe → Ambiguity
+ambiguity persons slack [] = ambiguity-case.Absent
+ambiguity persons slack (p ∷ ps) =
+    let rest = ambiguity persons slack ps in
+    let wider = widened rest (p .km) in
+    cond (withinSlack persons slack (p .centre)) wider rest
+
+-- every cell is in the circle around a cell of the row
+unfoldable pub coversWholeGrid : Globe → ℕ → Row → Bool
+coversWholeGrid s km row =
+    allBelow (s .grid .height) (λ r. allBelow (s .grid .width) (λ k. inCircle s (whole km) (record { row = row; col = record { 0 = 0 } }) (cell r k)))
+
+-- the answer at a radius, from the probes
+unfoldable pub smallestAt : Map → Float → List Probe → ℕ → Candidate → Bool → Smallest
+smallestAt m share trace km centre covers =
+    let persons = targetPersons m share in
+    let slack = predicateSlackPersons (m .globe .grid) (whole (total m)) in
+    record {
+      «radius_km» = record { 0 = km };
+      centre = centre;
+      target = target m share;
+      «share_achieved» = shareOf (centre .population) (total m);
+      «short_below» = shortBelow persons km trace;
+      «covers_whole_grid» = covers;
+      «predicate_slack_persons» = slack;
+      ambiguity = ambiguity persons slack trace;
+      «tolerance_persons» = whole 0;
+      stats = record { «radii_evaluated» = evaluatedIn trace; «radii_reused» = reusedIn trace; searched = statsOf trace };
+    }
+
+-- an answer and the ledger after it
+pub record Settled : Type 0 where
+  pub answer : Smallest
+  pub ledger : Ledger
+
+-- all short: the ceiling, cell (0, 0) and the total
+unfoldable pub concluded : Map → Float → Ended Run Candidate → Settled
+concluded m share (allShort r) =
+    record { answer = smallestAt m share (r .trace) (ceiling (m .globe .grid)) (northWest (total m)) true; ledger = r .ledger }
+concluded m share (reachedAt r km c) =
+    record { answer = smallestAt m share (r .trace) km c (coversWholeGrid (m .globe) km (c .row)); ledger = r .ledger }
+
+-- the smallest radius of an accepted map, share, spacing and ledger
+unfoldable pub smallest : Map → Spacing → Float → Ledger → Settled
+smallest m spacing share l = concluded m share (smallestRun m spacing share l)
+
+-- opens all of the above, for facts that are computed
+unfoldable pub smallests : Unit {0}
+unfolding target shareOf shortBelow predicateSlackPersons withinSlack widened ambiguity coversWholeGrid smallestAt concluded smallest
+smallests = tt
