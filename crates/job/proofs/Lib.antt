@@ -1,0 +1,10 @@
+pub mod Numbers
+pub mod Operands
+pub mod Decimals
+pub mod Texts
+pub mod Whole
+pub mod Maps
+pub mod Commands
+pub mod Lent
+pub mod Stepping
+pub mod Ring

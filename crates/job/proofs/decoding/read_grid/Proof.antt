@@ -1,0 +1,27 @@
+-- G's operands at their places, or cut.
+use mathlib.Core.Path.{ap}
+use Rattle.job.proofs.Operands.{operands-cut, operands-read}
+use Rattle.job.specs.declared.Command.the-variants.{SetGrid}
+use Rattle.job.specs.Command.{setGridOf}
+use borrow.Author.Needs.{needs}
+use Rattle.job.proofs.decoding.read_grid.Statement.{statement}
+use Rattle.job.proofs.decoding.read_grid.Tie as tie
+
+sub-if1 : tie.Need-sub-if1
+sub-if1 c = search needs
+
+returns : tie.Need-returns
+returns c = operands-cut (c .before .before .args .bytes .now) (c .before .before .args .from) 26 setGridOf (c .if1 .taken)
+
+grid-at-requires : tie.Need-grid-at-requires
+grid-at-requires c κs = search needs
+
+add-t4 : tie.Need-add-t4
+add-t4 c = search needs
+
+returns-2 : tie.Need-returns-2
+unfolding setGridOf
+returns-2 c = operands-read (c .before .before .before .args .bytes .now) (c .before .before .before .args .from) 26 setGridOf _ (c .before .if1 .left) (ap SetGrid (c .grid-at .ensures))
+
+pub read-grid-spec : {M : Type 1} → statement M
+read-grid-spec = tie.close (tie.spec sub-if1 returns grid-at-requires add-t4 returns-2)

@@ -1,0 +1,25 @@
+-- The array's change is the map's.
+use borrow.Author.Needs.{needs}
+use Prim.Native.Nat.{ℕ}
+use mathlib.Core.Path.{ap, _∙_}
+use lib.ListN.{set}
+use Rattle.job.proofs.Maps.{angle-changed}
+use Rattle.job.proofs.Whole.{angles-whole}
+use Rattle.job.proofs.state.with_angle.Statement.{statement}
+use Rattle.job.proofs.state.with_angle.Tie as tie
+
+angle-place-requires : tie.Need-angle-place-requires
+angle-place-requires c κs = search needs
+
+put-angle-requires : tie.Need-put-angle-requires
+put-angle-requires c κs = search needs
+
+emptied-requires : tie.Need-emptied-requires
+emptied-requires c κs = search needs
+
+returns : tie.Need-returns
+returns c = angle-changed (c .before .before .before .before .before .before .args .state) (c .before .before .before .before .before .before .pre) (c .emptied .result) (c .emptied .ensures) (c .before .before .before .before .before .before .args .centre) (c .before .before .before .before .before .before .args .row) (c .before .before .before .before .before .before .args .offset) (c .before .before .before .before .before .before .args .angle) (c .before .put-angle .result) (angles-whole (c .before .before .before .before .before .before .args .state) _ (c .before .before .before .before .before .before .good .0)) (c .before .put-angle .ensures ∙ ap (λ (i : ℕ). set (c .before .before .before .before .before .before .args .state .angles) i (c .before .before .before .before .before .before .args .angle)) (c .before .before .angle-place .ensures))
+
+pub with-angle-spec : {M : Type 1} → statement M
+with-angle-spec =
+    tie.close (tie.spec angle-place-requires put-angle-requires emptied-requires returns)

@@ -1,0 +1,17 @@
+-- The array's change is the map's.
+use Rattle.job.proofs.Maps.{cosine-changed}
+use borrow.Author.Needs.{needs}
+use Rattle.job.proofs.state.with_cosine.Statement.{statement}
+use Rattle.job.proofs.state.with_cosine.Tie as tie
+
+put-cosine-requires : tie.Need-put-cosine-requires
+put-cosine-requires c κs = search needs
+
+emptied-requires : tie.Need-emptied-requires
+emptied-requires c κs = search needs
+
+returns : tie.Need-returns
+returns c = cosine-changed (c .before .before .before .before .args .state) (c .before .before .before .before .pre) (c .emptied .result) (c .emptied .ensures) (c .before .before .before .before .args .row) (c .before .before .before .before .args .cosine) (c .before .put-cosine .result) (c .before .put-cosine .ensures)
+
+pub with-cosine-spec : {M : Type 1} → statement M
+with-cosine-spec = tie.close (tie.spec put-cosine-requires emptied-requires returns)

@@ -1,0 +1,5 @@
+pub mod Command
+pub mod State
+pub mod Line
+pub mod Job
+pub mod Ring
