@@ -1,0 +1,4 @@
+pub mod General
+pub mod Places
+pub mod Crossings
+pub mod SmallestCrossings

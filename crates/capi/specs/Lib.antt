@@ -1,0 +1,4 @@
+pub mod Crossing
+pub mod Words
+pub mod Calls
+pub mod Smallest

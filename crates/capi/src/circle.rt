@@ -1,0 +1,52 @@
+// The single-circle call.
+use grid::Cell;
+use grid::Col;
+use grid::Grid;
+use grid::Row;
+use kernel::CircleAnswer;
+ghost use mathlib.Core.Path.{_≡_};
+ghost use Rattle.grid.specs.Grid.{cell};
+ghost use Rattle.capi.specs.Crossing.{gridOf, mapOf};
+ghost use Rattle.capi.specs.Calls.{circleCrossing};
+
+// The population of a circle, written to people.
+#[no_mangle]
+pub extern "C" fn jadurphen_circle(
+    width: u32,
+    height: u32,
+    origin_lat: f64,
+    lon_step: f64,
+    lat_step: f64,
+    counts: &[u32],
+    angles: &[f64],
+    cosines: &[f64],
+    sums: &mut [u64],
+    km: u32,
+    row: u32,
+    col: u32,
+    people: &mut u64,
+) -> u32
+    ensures { λ r. ⌜ record { number = r; people = now (people .exit); sums = now (sums .exit) }
+        ≡ circleCrossing (mapOf (gridOf width height «origin_lat» «lon_step» «lat_step») (now (counts .entry)) (now (angles .entry)) (now (cosines .entry)))
+        (now (sums .entry)) km (cell row col) (now (people .entry)) ⌝ }
+{
+    let grid = Grid {
+        width,
+        height,
+        origin_lat,
+        lon_step,
+        lat_step,
+    };
+    let centre = Cell {
+        row: Row(row),
+        col: Col(col),
+    };
+    let answer = kernel::circle(grid, counts, angles, cosines, sums, km, centre);
+    match answer {
+        CircleAnswer::Population(n) => {
+            *people = n;
+            0
+        }
+        CircleAnswer::Refused(n) => n,
+    }
+}

@@ -1,0 +1,12 @@
+// The C boundary: each call over numbers and slices. It returns 0, or the number of its refusal with nothing written.
+// A slice crosses as a pointer and then a length; `include/jadurphen.h` declares the functions.
+mod circle;
+mod put;
+mod search_call;
+mod smallest_call;
+mod words;
+
+pub use circle::jadurphen_circle;
+pub use put::jadurphen_put;
+pub use search_call::jadurphen_search;
+pub use smallest_call::jadurphen_smallest;
