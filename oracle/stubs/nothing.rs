@@ -1,0 +1,1 @@
+// Stands for the original's file modules (table and ledger on disk), which the oracle leaves out.
