@@ -9,10 +9,10 @@ use lib.ListN.{length, set, length-append}
 use borrow.Author.Tests.{eq-eqb, ne-eqb}
 use Rattle.lists.specs.Lists.{each, concatEach}
 use Rattle.lists.proofs.Folds.{length-each, each-append}
+use Rattle.lists.proofs.Writes.{written-none, Writing, writing-start, writing-step, writing-more, writing-end, writing-done}
 use Rattle.blocks.specs.declared.Block.{Block}
 use Rattle.blocks.specs.Block.{range, block, isCell, middle, cross, halves, split}
-use Rattle.blocks.specs.Word.{written, Written, wordOf, columnHalves, CanHalve, CanSplit}
-use Rattle.blocks.proofs.Writes.{written-none, Writing, writing-start, writing-step, writing-more, writing-end, writing-done}
+use Rattle.blocks.specs.Word.{Written, wordOf, columnHalves, CanHalve, CanSplit}
 
 -- ---- halves
 

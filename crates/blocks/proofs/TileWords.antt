@@ -10,12 +10,12 @@ use borrow.Author.Tests.{le-leb, lt-leb}
 use Rattle.lists.specs.Lists.{each, concatEach}
 use Rattle.lists.specs.Front.{onto}
 use Rattle.lists.proofs.Folds.{length-each, each-append}
+use Rattle.lists.proofs.Writes.{Writing, writing-start, writing-step, writing-more, writing-end, writing-done, writing-room}
 use Rattle.grid.specs.declared.Grid.{Grid}
 use Rattle.grid.specs.Grid.{cells}
 use Rattle.blocks.specs.Block.{Range, range, block, steps, cross, tile}
 use Rattle.blocks.specs.Word.{Written, Tiled, wordOf, tileRow}
 use Rattle.blocks.proofs.Tiles.{tile-area, tile-rectangle, length-area}
-use Rattle.blocks.proofs.Writes.{Writing, writing-start, writing-step, writing-more, writing-end, writing-done, writing-room}
 
 -- ---- the numbers below n, cut in steps from low on
 

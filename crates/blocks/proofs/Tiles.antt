@@ -18,7 +18,8 @@ use Rattle.grid.specs.declared.Grid.{Grid}
 use Rattle.grid.specs.Grid.{onGrid, cells}
 use Rattle.blocks.specs.declared.Block.{Block}
 use Rattle.blocks.specs.Block.{Range, range, block, area, isCell, probe, steps, cross, tile, halves, split, Rectangle, Holds}
-use Rattle.blocks.proofs.General.{cell-path, on-grid, any-positive, parts-total, length-total}
+use Rattle.grid.proofs.CellOrder.{cell-path, on-grid}
+use Rattle.blocks.proofs.General.{any-positive, parts-total, length-total}
 use Rattle.blocks.proofs.Ranges.{Additive, size, size-additive, having, having-of, of-having, having-additive, middle-low, middle-high, steps-add, halves-add, times, cross-times, steps-part, Stepped, steps-stepped, Half, halves-half, cross-all}
 
 -- ---- what adds up over rows and columns adds up over tiles and children

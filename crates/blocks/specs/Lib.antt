@@ -1,4 +1,2 @@
 pub mod Block
 pub mod Word
-pub mod Bound
-pub mod Spacing

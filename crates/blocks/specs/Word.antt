@@ -1,17 +1,14 @@
 -- A block as a word of four 16-bit numbers, the form in which a level's buffer holds it.
 use Prim.Native.Nat.{ℕ, _+_, _-_, _*_, _/_, _%_, _≤_, _<_}
 use mathlib.Core.Path.{_≡_}
-use mathlib.Core.Bool.{Bool}
+use mathlib.Core.Bool.{Bool, cond, not}
 use mathlib.Core.List.{List, _++_}
-use lib.ListN.{length, take, drop}
+use lib.Dec.{eqb}
+use lib.ListN.{length, take}
 use Rattle.lists.specs.Lists.{each, sort}
-use Rattle.lists.specs.Front.{onto}
+use Rattle.lists.specs.Front.{onto, written}
 use Rattle.blocks.specs.declared.Block.{Block}
-use Rattle.blocks.specs.Block.{Range, range, block, byProbe, steps, halves, split}
-
--- a list with xs over it from place at on
-abbrev pub written : {A : Type 0} → ℕ → List A → List A → List A
-written at xs l = take at l ++ xs ++ drop (at + length xs) l
+use Rattle.blocks.specs.Block.{Range, range, block, probe, byProbe, steps, halves, split}
 
 -- what becomes of a buffer l by writing xs from place at on: the buffer l′, and the place after what was written
 pub record Written (l : List ℕ) (at : ℕ) (xs l′ : List ℕ) (next : ℕ) : Type 0 where
@@ -46,6 +43,14 @@ blocksOf n words = each blockOf (take n words)
 unfoldable pub wordsByProbe : ℕ → ℕ → Bool
 wordsByProbe v w = byProbe (blockOf v) (blockOf w)
 
+-- the row of a word's probe
+unfoldable pub probeRow : ℕ → ℕ
+probeRow w = probe (blockOf w) .row .0
+
+-- a word's probe is on a row; where own is false, it is on another
+unfoldable pub onRow : ℕ → Bool → ℕ → Bool
+onRow row own w = let on = eqb (probeRow w) row in cond own on (not on)
+
 -- ---- what the code over buffers asks
 
 -- a block of small numbers, and room for its children from place at on
@@ -71,13 +76,22 @@ pub record CanTake (n : ℕ) (from to : List ℕ) : Type 0 where
   pub words : n ≤ length from
   pub room : n ≤ length to
 
--- a front of i words that is in probe order, and the next word to come
-pub record CanInsert (from : List ℕ) (i : ℕ) (to : List ℕ) : Type 0 where
-  pub word : i < length from
-  pub room : i < length to
-  pub front : take i to ≡ sort wordsByProbe (take i from)
+-- a front of k words that is in probe order, and room for the words xs among them
+pub record CanJoin (to : List ℕ) (k : ℕ) (xs : List ℕ) : Type 0 where
+  pub room : k + length xs ≤ length to
+  pub front : sort wordsByProbe (take k to) ≡ take k to
+
+-- what becomes of a buffer by putting xs among the k words at its front, in probe order: the buffer to′, and how many are in order
+pub record Joined (to : List ℕ) (k : ℕ) (xs to′ : List ℕ) (k′ : ℕ) : Type 0 where
+  pub number : k′ ≡ k + length xs
+  pub words : to′ ≡ onto (sort wordsByProbe (take k to ++ xs)) to
+
+-- a stretch of the first n words: one at least
+pub record Stretch (i end n : ℕ) : Type 0 where
+  pub some : i < end
+  pub words : end ≤ n
 
 -- opens all of the above, for facts that are computed
 unfoldable pub words : Unit {0}
-unfolding wordOf blockOf blocksOf wordsByProbe columnHalves tileRow
+unfolding wordOf blockOf blocksOf wordsByProbe probeRow onRow columnHalves tileRow
 words = tt

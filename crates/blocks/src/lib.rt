@@ -1,14 +1,9 @@
-// Blocks, the rectangles of centres that a search works on, and the spacing of the first ones.
-mod bound;
+// Blocks, the rectangles of centres that a search works on: their cells, their words, their pieces and their order.
 mod cells;
 mod order;
 mod pieces;
-mod side;
 mod word;
 
-pub use bound::slack_km;
-pub use bound::wide_km;
-pub use bound::widened_by;
 pub use cells::area;
 pub use cells::by_probe;
 pub use cells::is_cell;
@@ -18,9 +13,6 @@ use grid::Row;
 pub use order::insert_from;
 pub use pieces::split;
 pub use pieces::tile;
-pub use side::initial_spacing;
-pub use side::spacing_given;
-pub use side::spacing_of;
 pub use word::from_word;
 pub use word::to_word;
 
@@ -30,10 +22,4 @@ pub struct Block {
     pub south: Row,
     pub first: Col,
     pub last: Col,
-}
-
-// The side of the first level's blocks.
-pub enum Spacing {
-    Automatic,
-    Cells(u32),
 }

@@ -10,7 +10,7 @@ use Rattle.grid.specs.declared.Cell.{Cell}
 use Rattle.grid.specs.Map.{Map}
 use Rattle.grid.specs.declared.Grid.{Grid}
 use Rattle.grid.specs.Answer.{Answer, answered, refused, decide, after, shown, firstNo}
-use Rattle.blocks.specs.declared.Spacing.{Spacing}
+use Rattle.bounds.specs.declared.Spacing.{Spacing}
 use Rattle.search.specs.declared.MostPopulous.{MostPopulous}
 use Rattle.search.specs.declared.SearchAnswer.{SearchAnswer}
 use Rattle.search.specs.declared.SearchAnswer.the-variants as search-answer

@@ -10,7 +10,7 @@ use lib.ListN.{length}
 use Rattle.lists.specs.Counted.{one}
 use Rattle.grid.specs.Map.{Map}
 use Rattle.grid.specs.Answer.{decide, after, shown, firstNo}
-use Rattle.blocks.specs.declared.Spacing.{Spacing}
+use Rattle.bounds.specs.declared.Spacing.{Spacing}
 use Rattle.search.specs.Call.{Buffers}
 use Rattle.ledger.specs.declared.Ledger.{Ledger}
 use Rattle.ledger.specs.Ledger.{capacity}

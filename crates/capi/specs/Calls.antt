@@ -4,7 +4,7 @@ use mathlib.Core.List.{List, [], _∷_}
 use lib.Ieee.{Float}
 use Rattle.grid.specs.declared.Cell.{Cell}
 use Rattle.grid.specs.Map.{Map}
-use Rattle.blocks.specs.declared.Spacing.{Spacing}
+use Rattle.bounds.specs.declared.Spacing.{Spacing}
 use Rattle.search.specs.declared.MostPopulous.{MostPopulous}
 use Rattle.search.specs.Call.{Buffers, SearchOutcome, searchCall}
 use Rattle.kernel.specs.Call.{CircleOutcome, circleCall}

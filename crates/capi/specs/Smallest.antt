@@ -5,7 +5,7 @@ use lib.Ieee.{Float}
 use Rattle.lists.specs.Counted.{one}
 use Rattle.grid.specs.Map.{Map}
 use Rattle.grid.specs.Answer.{after}
-use Rattle.blocks.specs.declared.Spacing.{Spacing}
+use Rattle.bounds.specs.declared.Spacing.{Spacing}
 use Rattle.search.specs.Call.{Buffers}
 use Rattle.smallest.specs.declared.Ambiguity.{Ambiguity}
 use Rattle.smallest.specs.declared.Ambiguity.the-variants as ambiguity-case

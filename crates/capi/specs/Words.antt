@@ -8,7 +8,7 @@ use Rattle.lists.specs.Counted.{allBelow}
 use Rattle.lists.specs.Lists.{concatEach}
 use Rattle.lists.specs.Front.{tabulate}
 use Rattle.grid.specs.Grid.{cell}
-use Rattle.search.specs.Candidate.{candidateOf}
+use Rattle.candidates.specs.Candidate.{candidateOf}
 use Rattle.ledger.specs.declared.Entry.{Entry}
 use Rattle.ledger.specs.declared.Ledger.{Ledger}
 use Rattle.ledger.specs.Ledger.{capacity, entry}

@@ -1,15 +1,15 @@
 // The put call over a ledger of words.
 use crate::words;
+use candidates::Candidate;
 use grid::Col;
 use grid::Grid;
 use grid::RadiusKm;
 use grid::Row;
 use ledger::Entry;
 use ledger::PutAnswer;
-use search::Candidate;
 ghost use mathlib.Core.Path.{_≡_};
 ghost use Rattle.grid.specs.Grid.{cell};
-ghost use Rattle.search.specs.Candidate.{candidateOf};
+ghost use Rattle.candidates.specs.Candidate.{candidateOf};
 ghost use Rattle.ledger.specs.Ledger.{entry};
 ghost use Rattle.capi.specs.Crossing.{gridOf};
 ghost use Rattle.capi.specs.Calls.{putCrossing};

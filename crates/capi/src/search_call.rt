@@ -1,5 +1,5 @@
 // The search call.
-use blocks::Spacing;
+use bounds::Spacing;
 use grid::Grid;
 use search::MostPopulous;
 use search::SearchAnswer;

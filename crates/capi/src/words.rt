@@ -1,10 +1,10 @@
 // A ledger as lent words: word 0 the number of entries, then kilometre, row, column and population of each of the 512 places.
+use candidates::Candidate;
 use grid::Col;
 use grid::RadiusKm;
 use grid::Row;
 use ledger::Entry;
 use ledger::Ledger;
-use search::Candidate;
 ghost use mathlib.Core.Path.{_≡_};
 ghost use mathlib.Core.Bool.{true};
 ghost use mathlib.Core.List.{_++_};

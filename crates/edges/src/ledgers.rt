@@ -1,12 +1,12 @@
 // Ledgers, and what of them a call has changed.
 use crate::print;
+use candidates::Candidate;
 use grid::Col;
 use grid::RadiusKm;
 use grid::Row;
 use ledger::Entry;
 use ledger::Got;
 use ledger::Ledger;
-use search::Candidate;
 
 pub fn entry(km: u32, row: u32, col: u32, population: u64) -> Entry {
     Entry {

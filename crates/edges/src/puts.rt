@@ -7,8 +7,6 @@ use ledger::Entry;
 use ledger::Ledger;
 use ledger::PutAnswer;
 use ledger::PutResult;
-ghost use mathlib.Core.Path.{_≡_};
-ghost use Rattle.ledger.specs.Call.{putCall, putAnswer};
 
 // What the put owes: the entry at its place, in place of the one there or with the later ones moved up.
 pub struct Owed {
@@ -65,18 +63,6 @@ fn owed_ledger(before: Ledger, entry: Entry, owed: Owed) -> Ledger {
     next
 }
 
-// The put over a lent ledger, lent here.
-fn put_by_lending(grid: Grid, ledger: Ledger, entry: Entry) -> PutResult
-    ensures { λ r. ⌜ record { answer = putAnswer (r .answer); ledger = r .ledger } ≡ putCall grid ledger entry ⌝ }
-{
-    let mut lent = ledger;
-    let answer = ledger::put_lent(&mut lent, grid, entry);
-    PutResult {
-        answer,
-        ledger: lent,
-    }
-}
-
 // A line: after a refusal every place counts, after an answer those that are not what the put owes.
 fn line(case: &[u8], result: PutResult, before: Ledger, due: Ledger) {
     let answer = result.answer;
@@ -102,7 +88,12 @@ fn play(case: &[u8], grid: Grid, before: Ledger, entry: Entry, owed: Owed) {
     print::text(b"put, ");
     line(case, ledger::put_entry(grid, before, entry), before, due);
     print::text(b"lent, ");
-    line(case, put_by_lending(grid, before, entry), before, due);
+    line(
+        case,
+        ledger::put_by_lending(grid, before, entry),
+        before,
+        due,
+    );
 }
 
 // A put of a kilometre into so many entries.

@@ -6,7 +6,7 @@ use crate::print;
 use crate::worlds;
 use crate::worlds::HALF;
 use crate::worlds::QUARTER;
-use blocks::Spacing;
+use bounds::Spacing;
 use grid::Grid;
 use ledger::Entry;
 use ledger::Ledger;

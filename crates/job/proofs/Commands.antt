@@ -8,11 +8,11 @@ use Rattle.grid.specs.declared.Grid.{Grid}
 use Rattle.grid.specs.Answer.{question, firstNo, Answer, answered, refused, decide}
 use Rattle.grid.specs.Questions.{gridQuestions}
 use Rattle.job.specs.declared.Applied.{Applied}
-use Rattle.job.specs.declared.Command.{Command}
-use Rattle.job.specs.declared.Command.the-variants.{SetGrid, End}
+use Rattle.commands.specs.declared.Command.{Command}
+use Rattle.commands.specs.declared.Command.the-variants.{SetGrid, End}
 use Rattle.job.specs.declared.JobState.{JobState}
-use Rattle.job.specs.declared.Line.{Line}
-use Rattle.job.specs.Line.{textOf, refusedLine}
+use Rattle.lines.specs.declared.Line.{Line}
+use Rattle.lines.specs.Line.{textOf, refusedLine}
 use Rattle.job.specs.State.{World, State, empty, begun, Done, sizeTaken, emptyMap, emptied, placed, inWorld, first, apply, settle, applied, worldOf, stateOf, doneOf}
 
 decide-refused : {A : Type 0} (n : ℕ) (a : A) → 0 < n → decide n a ≡ refused n

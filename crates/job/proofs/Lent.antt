@@ -14,8 +14,8 @@ use Rattle.grid.specs.declared.Grid.{Grid}
 use Rattle.grid.specs.Grid.{cells, closing}
 use Rattle.grid.specs.Map.{Map}
 use Rattle.grid.specs.Answer.{Answer, answered, refused}
-use Rattle.blocks.specs.declared.Spacing.{Spacing}
-use Rattle.blocks.specs.declared.Spacing.the-variants.{Cells}
+use Rattle.bounds.specs.declared.Spacing.{Spacing}
+use Rattle.bounds.specs.declared.Spacing.the-variants.{Cells}
 use Rattle.search.specs.declared.MostPopulous.{MostPopulous}
 use Rattle.search.specs.declared.SearchAnswer.{SearchAnswer}
 use Rattle.search.specs.declared.SearchAnswer.the-variants as search-answer
@@ -25,9 +25,9 @@ use Rattle.smallest.specs.declared.Smallest.{Smallest}
 use Rattle.smallest.specs.declared.SmallestAnswer.the-variants as smallest-answer
 use Rattle.smallest.specs.declared.SmallestResult.{SmallestResult}
 use Rattle.smallest.specs.Call.{SmallestOutcome, smallestCall, smallestAnswer}
-use Rattle.job.specs.declared.Command.the-variants.{Most, Least}
+use Rattle.commands.specs.declared.Command.the-variants.{Most, Least}
 use Rattle.job.specs.declared.JobState.{JobState}
-use Rattle.job.specs.Line.{mostLine, leastLine}
+use Rattle.lines.specs.Line.{mostLine, leastLine}
 use Rattle.job.specs.State.{begun, going, angleCount, spacingOf, jobBuffers, searched, settled, LeastOf, inWorld, mapOf, worldOf}
 
 -- ---- the front of an array, of as many places as the map takes

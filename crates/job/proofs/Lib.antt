@@ -1,7 +1,3 @@
-pub mod Numbers
-pub mod Operands
-pub mod Decimals
-pub mod Texts
 pub mod Whole
 pub mod Maps
 pub mod Commands

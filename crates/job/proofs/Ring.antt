@@ -2,9 +2,9 @@
 use mathlib.Core.Path.{refl}
 use Rattle.search.proofs.Ring.{ring-open}
 use Rattle.smallest.proofs.Ring.{smallest-open, marked-facts}
-use Rattle.job.specs.Command.{commands}
+use Rattle.commands.specs.Command.{commands}
 use Rattle.job.specs.State.{states}
-use Rattle.job.specs.Line.{lines}
+use Rattle.lines.specs.Line.{lines}
 use Rattle.job.specs.Job.{jobs}
 use Rattle.job.specs.Ring.{RingJob, ringJobs}
 

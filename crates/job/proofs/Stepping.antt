@@ -5,12 +5,12 @@ use mathlib.Core.List.{List, []}
 use lib.ListN.{drop}
 use Rattle.grid.specs.Answer.{refused}
 use Rattle.job.specs.declared.Applied.{Applied}
-use Rattle.job.specs.declared.Command.{Command}
-use Rattle.job.specs.declared.Decoded.{Decoded}
-use Rattle.job.specs.declared.Decoded.the-variants.{Read, Malformed}
+use Rattle.commands.specs.declared.Command.{Command}
+use Rattle.commands.specs.declared.Decoded.{Decoded}
+use Rattle.commands.specs.declared.Decoded.the-variants.{Read, Malformed}
 use Rattle.job.specs.declared.JobState.{JobState}
 use Rattle.job.specs.declared.StepResult.{StepResult}
-use Rattle.job.specs.Command.{decode, decodedOf}
+use Rattle.commands.specs.Command.{decode, decodedOf}
 use Rattle.job.specs.State.{settle, applied, stateOf, doneOf}
 use Rattle.job.specs.Job.{after, stepWith, step, stepOf}
 

@@ -6,10 +6,10 @@ use lib.ListN.{length, drop}
 use lib.Dec.{ltb}
 use Rattle.grid.specs.Answer.{refused}
 use Rattle.ledger.specs.declared.Ledger.{Ledger}
-use Rattle.job.specs.Command.{Decoding, command, malformed, decode}
+use Rattle.commands.specs.Command.{Decoding, command, malformed, decode}
 use Rattle.job.specs.declared.StepResult.{StepResult}
 use Rattle.job.specs.State.{State, empty, Done, settle, applied, stateOf}
-use Rattle.job.specs.Line.{refusedLine, textOf}
+use Rattle.lines.specs.Line.{refusedLine, textOf}
 
 -- a step: the job goes on from a state after a line and with the bytes left, or it ends in a state with a last line, which may be none
 pub data Step : Type 0 where

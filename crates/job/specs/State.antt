@@ -14,8 +14,8 @@ use Rattle.grid.specs.Grid.{cells, closing, onGrid}
 use Rattle.grid.specs.Map.{Globe, Map, sheetIndex}
 use Rattle.grid.specs.Answer.{Question, question, firstNo, Answer, answered, refused, decide}
 use Rattle.grid.specs.Questions.{gridQuestions}
-use Rattle.blocks.specs.declared.Spacing.{Spacing}
-use Rattle.blocks.specs.declared.Spacing.the-variants.{Automatic, Cells}
+use Rattle.bounds.specs.declared.Spacing.{Spacing}
+use Rattle.bounds.specs.declared.Spacing.the-variants.{Automatic, Cells}
 use Rattle.search.specs.declared.MostPopulous.{MostPopulous}
 use Rattle.search.specs.Call.{Buffers, searchCall}
 use Rattle.ledger.specs.declared.Entry.{Entry}
@@ -23,11 +23,11 @@ use Rattle.ledger.specs.declared.Ledger.{Ledger}
 use Rattle.smallest.specs.declared.Smallest.{Smallest}
 use Rattle.smallest.specs.declared.SmallestResult.{SmallestResult}
 use Rattle.smallest.specs.Call.{SmallestOutcome, smallestCall, smallestAnswer}
-use Rattle.job.specs.declared.Command.{Command}
-use Rattle.job.specs.declared.Command.the-variants.{SetGrid, SetCount, SetCosine, SetAngle, Most, Least, End}
+use Rattle.commands.specs.declared.Command.{Command}
+use Rattle.commands.specs.declared.Command.the-variants.{SetGrid, SetCount, SetCosine, SetAngle, Most, Least, End}
 use Rattle.job.specs.declared.Applied.{Applied}
 use Rattle.job.specs.declared.JobState.{JobState}
-use Rattle.job.specs.Line.{refusedLine, mostLine, leastLine, textOf}
+use Rattle.lines.specs.Line.{refusedLine, mostLine, leastLine, textOf}
 
 -- a map under way, and its ledger
 pub record World : Type 0 where

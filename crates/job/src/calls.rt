@@ -2,9 +2,8 @@
 use crate::Applied;
 use crate::JobState;
 use crate::change;
-use crate::lines;
 use crate::state;
-use blocks::Spacing;
+use bounds::Spacing;
 use grid::Grid;
 use search::SearchAnswer;
 use smallest::SmallestAnswer;
@@ -14,7 +13,7 @@ ghost use Prim.Native.Nat.{min};
 ghost use lib.ListN.{replicate};
 ghost use Rattle.grid.specs.Grid.{cells};
 ghost use Rattle.search.specs.Call.{searchAnswer, searchCall};
-ghost use Rattle.job.specs.declared.Command.the-variants.{Most, Least};
+ghost use Rattle.commands.specs.declared.Command.the-variants.{Most, Least};
 ghost use Rattle.smallest.specs.Call.{smallestCall};
 ghost use Rattle.job.specs.State.{angleCount, spacingOf, jobBuffers, LeastOf, applied, mapOf, stateOf, doneOf};
 

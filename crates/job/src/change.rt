@@ -1,17 +1,16 @@
 // What each command does to the state. A refusal leaves it as it was.
 use crate::Applied;
 use crate::JobState;
-use crate::Line;
-use crate::lines;
 use crate::state;
 use grid::Cell;
 use grid::Grid;
 use grid::Row;
+use lines::Line;
 ghost use mathlib.Core.Path.{_≡_};
 ghost use mathlib.Core.Bool.{false};
 ghost use Rattle.grid.specs.Answer.{refused};
-ghost use Rattle.job.specs.declared.Command.the-variants.{SetGrid, SetCount, SetCosine, SetAngle, End};
-ghost use Rattle.job.specs.Line.{textOf};
+ghost use Rattle.commands.specs.declared.Command.the-variants.{SetGrid, SetCount, SetCosine, SetAngle, End};
+ghost use Rattle.lines.specs.Line.{textOf};
 ghost use Rattle.job.specs.State.{sizeTaken, rowOn, angleOn, settle, applied, stateOf, doneOf};
 
 pub(crate) fn refuse(state: JobState, number: u32) -> Applied

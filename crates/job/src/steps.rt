@@ -1,12 +1,11 @@
 // One step of a job: the command at a place, decoded and applied.
 use crate::Applied;
-use crate::Command;
-use crate::Decoded;
 use crate::JobState;
 use crate::StepResult;
 use crate::calls;
 use crate::change;
-use crate::decoding;
+use commands::Command;
+use commands::Decoded;
 ghost use mathlib.Core.Path.{_≡_};
 ghost use lib.ListN.{drop};
 ghost use Rattle.job.specs.State.{applied, stateOf, doneOf};
@@ -35,7 +34,7 @@ pub fn apply(state: JobState, command: Command) -> Applied
 pub fn step(bytes: &[u8], at: usize, state: JobState) -> StepResult
     ensures { λ r. ⌜ stepOf (now (bytes .entry)) r ≡ step (stateOf state) (drop at (now (bytes .entry))) ⌝ }
 {
-    match decoding::decode(bytes, at) {
+    match commands::decode(bytes, at) {
         Decoded::Read { command, next } => {
             let done = apply(state, command);
             let after = done.state;

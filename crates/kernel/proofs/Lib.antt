@@ -9,6 +9,7 @@ pub mod Kernels
 pub mod Built
 pub mod Rows
 pub mod Cells
+pub mod WholeGrid
 pub mod People
 pub mod Alike
 pub mod Calls

@@ -94,6 +94,17 @@ module _ {g : Grid} {angles : List Float} (t : Sheet g angles) where
   pub sheet-high : g .height ≤ 90
   sheet-high = sheet-sizes .rows
 
+  -- where the last offset of a row is within the angle, all are
+  pub reach-full : (c r : Row) → c .0 < g .height → r .0 < g .height → (limit : Float)
+      → le (angleAt (sheetOf g angles) c r (closing g)) limit ≡ true → closing g + 1 ≡ reach (sheetOf g angles) c r limit
+  unfolding inside angleAt
+  reach-full c r C R limit e =
+      let s = globeOf g angles (t .cosines) in
+      sym (reach-is s (c .0) (r .0) limit (closing g + 1) (omega arith)
+      (inside-below s sheet-order (c .0) C limit (r .0) R (closing g) (omega arith) e)
+      (λ k h u. absurd (omega arith)))
+      ∙ reach-sheet g angles (t .cosines) c r limit
+
   pub sheet-beyond : (c : Row) → c .0 < g .height → (limit : Float) (r u : ℕ) → u < g .height → (c .0 ≤ r × r ≤ u) ⊎ (u ≤ r × r ≤ c .0)
       → reach (sheetOf g angles) c (record { 0 = r }) limit ≡ 0 → reach (sheetOf g angles) c (record { 0 = u }) limit ≡ 0
   sheet-beyond c C limit r u h p e =

@@ -3,8 +3,9 @@ use Prim.Native.Nat.{ℕ}
 use mathlib.Core.Bool.{Bool, false, cond}
 use lib.Ieee.{Float, le, eq}
 use Rattle.floats.specs.Binary.{whole}
-use Rattle.lists.specs.Counted.{sumBelow}
+use Rattle.lists.specs.Counted.{sumBelow, allBelow}
 use Rattle.grid.specs.declared.Cell.{Cell}
+use Rattle.grid.specs.declared.Row.{Row}
 use Rattle.grid.specs.Grid.{angleOf, cell, columnDistance}
 use Rattle.grid.specs.Map.{Globe, Map, angleAt, count}
 
@@ -21,7 +22,12 @@ unfoldable pub population : Map → Float → Cell → ℕ
 population m km centre =
     sumBelow (m .globe .grid .height) (λ r. sumBelow (m .globe .grid .width) (λ k. cond (inCircle (m .globe) km centre (cell r k)) (count m (cell r k)) 0))
 
+-- every cell is in the circle around a cell of the row
+unfoldable pub coversWholeGrid : Globe → Float → Row → Bool
+coversWholeGrid s km row =
+    allBelow (s .grid .height) (λ r. allBelow (s .grid .width) (λ k. inCircle s km (record { row = row; col = record { 0 = 0 } }) (cell r k)))
+
 -- opens all of the above, for facts that are computed
 unfoldable pub circles : Unit {0}
-unfolding angleTo inCircle population
+unfolding angleTo inCircle population coversWholeGrid
 circles = tt

@@ -9,7 +9,7 @@ use lib.Dec.{leb, ltb, eqb}
 use lib.ListN.{getD}
 use lib.Ieee.{Float, le, eq}
 use Rattle.floats.specs.Binary.{whole}
-use Rattle.lists.specs.Counted.{sumBelow, one}
+use Rattle.lists.specs.Counted.{sumBelow, allBelow, one}
 use Rattle.lists.specs.Front.{tabulate}
 use Rattle.grid.specs.declared.Row.{Row}
 use Rattle.grid.specs.declared.Col.{Col}
@@ -56,6 +56,10 @@ kernelPopulation m k col =
     let g = m .globe .grid in
     sumBelow (g .height) (λ r. sumBelow (g .width) (λ i. cond (inKernel g k col (cell r i)) (count m (cell r i)) 0))
 
+-- a kernel holds every cell of the grid, around column 0 and so around any other
+unfoldable pub kernelCovers : Grid → Kernel → Bool
+kernelCovers g k = allBelow (g .height) (λ r. allBelow (g .width) (λ i. inKernel g k (record { 0 = 0 }) (cell r i)))
+
 -- ---- what the functions below the call are told
 
 abbrev pub globeOf : Grid → List Float → List Float → Globe
@@ -93,5 +97,5 @@ pub record Placed (g : Grid) (sums : List ℕ) (k : Kernel) (col : Col) : Type 0
 
 -- opens all of the above, for facts that are computed
 unfoldable pub kernels : Unit {0}
-unfolding reach rowReach kernelOf inKernel kernelPopulation
+unfolding reach rowReach kernelOf inKernel kernelPopulation kernelCovers
 kernels = tt

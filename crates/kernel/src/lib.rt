@@ -1,12 +1,14 @@
 // Kernels of circles, and what the single-circle call answers.
 mod band;
 mod call;
+mod cover;
 mod outward;
 
 pub use band::build;
 pub use band::circle_population;
 pub use call::circle;
 pub use call::radius_in_range;
+pub use cover::covers;
 use grid::Row;
 pub use outward::within;
 

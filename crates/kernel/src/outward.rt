@@ -16,7 +16,7 @@ pub fn within(angle: f64, limit: f64) -> bool
 }
 
 // How many offsets of a row lie within an angle: found by halves, since angles do not fall as the offset grows.
-fn reach_of(grid: Grid, angles: &[f64], centre: Row, row: Row, limit: f64) -> u8
+fn reach_by_halves(grid: Grid, angles: &[f64], centre: Row, row: Row, limit: f64) -> u8
     requires { ⌜ PairOnSheet grid (now angles) centre row ⌝ }
     ensures { λ r. ⌜ r ≡ reach (sheetOf grid (now (angles .entry))) centre row limit ⌝ }
 {
@@ -32,6 +32,18 @@ fn reach_of(grid: Grid, angles: &[f64], centre: Row, row: Row, limit: f64) -> u8
         }
     }
     low as u8
+}
+
+// The same: where the last offset is within, all are, as in most rows of a very large circle.
+fn reach_of(grid: Grid, angles: &[f64], centre: Row, row: Row, limit: f64) -> u8
+    requires { ⌜ PairOnSheet grid (now angles) centre row ⌝ }
+    ensures { λ r. ⌜ r ≡ reach (sheetOf grid (now (angles .entry))) centre row limit ⌝ }
+{
+    let last = grid::closing(grid);
+    if within(grid::angle_at(grid, angles, centre, row, last), limit) {
+        return last as u8 + 1;
+    }
+    reach_by_halves(grid, angles, centre, row, limit)
 }
 
 // The reaches of the rows north of the centre row, up to the first row missed. Gives the northernmost row touched.

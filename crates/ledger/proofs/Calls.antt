@@ -4,9 +4,8 @@ use mathlib.Core.Path.{_≡_, refl, sym}
 use mathlib.Core.Bool.{true, cond, _&&_}
 use mathlib.Core.List.{List, [], _∷_, append-nil}
 use native.Mathlib.Omega.{arith}
-use lib.Dec.{leb}
-use borrow.Author.Tests.{leb-true, le-leb}
-use Rattle.lists.proofs.Bools.{and-left, and-right}
+use borrow.Author.Tests.{le-leb}
+use Rattle.lists.proofs.Bools.{and-left}
 use Rattle.grid.specs.declared.Grid.{Grid}
 use Rattle.grid.specs.Answer.{Question, question, firstNo, answered, refused, decide, after}
 use Rattle.grid.specs.Questions.{gridQuestions}
@@ -15,9 +14,10 @@ use Rattle.ledger.specs.declared.Entry.{Entry}
 use Rattle.ledger.specs.declared.Ledger.{Ledger}
 use Rattle.ledger.specs.declared.Got.{Got}
 use Rattle.ledger.specs.declared.Got.the-variants.{Circle, Nothing}
-use Rattle.ledger.specs.Ledger.{capacity, entries, get, put, entryInBounds, risingFrom, allInBounds, ledgerInOrder, placesFree}
+use Rattle.ledger.specs.Ledger.{capacity, entries, get, put, entryInBounds, risingFrom, ledgerInOrder, placesFree}
 use Rattle.ledger.specs.Call.{placeFor, putQuestions, putCall}
 use Rattle.ledger.specs.Places.{PutRoom}
+use Rattle.ledger.proofs.Order.{ordered}
 
 -- a number that is not above 0
 pub no-number : {n m : ℕ} → n ≡ m → n ≤ 0 → m ≡ 0
@@ -47,18 +47,14 @@ module _ (g : Grid) (l : Ledger) (x : Entry) where
   own-questions e = grid-append g ownQuestions (grid-passed g [] (rw append-nil e) .0)
 
   pub put-room : firstNo (putQuestions g l x) ≡ 0 → PutRoom l x
-  unfolding putQuestions ledgerInOrder
+  unfolding putQuestions
   put-room e =
       let own = grid-passed g ownQuestions e .1 in
       let eleven = passed-first 10 (ledgerInOrder g l && entryInBounds g x) (question 12 (placeFor l (get l (x .km .0))) ∷ []) own in
       let twelve = passed-first 11 (placeFor l (get l (x .km .0))) [] (eleven .1) in
       let order = and-left (ledgerInOrder g l) (entryInBounds g x) (eleven .0) in
-      let rising = and-left (leb (l .len) capacity && risingFrom 0 (entries l)) (allInBounds g (entries l)) order in
-      record {
-        counted = leb-true (l .len) capacity (and-left (leb (l .len) capacity) (risingFrom 0 (entries l)) rising);
-        rising = and-right (leb (l .len) capacity) (risingFrom 0 (entries l)) rising;
-        place = twelve .0;
-      }
+      let parts = ordered g l order in
+      record { counted = parts .counted; rising = parts .rising; place = twelve .0 }
 
   pub call-refused : (n : ℕ) → n ≡ firstNo (putQuestions g l x) → 0 < n → record { answer = refused n; ledger = l } ≡ putCall g l x
   unfolding putCall decide after

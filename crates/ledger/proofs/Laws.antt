@@ -11,7 +11,7 @@ use Rattle.lists.specs.Front.{onto}
 use Rattle.lists.proofs.Bools.{and-both, cases}
 use Rattle.lists.proofs.Fronts.{take-onto, length-onto}
 use Rattle.grid.specs.declared.Grid.{Grid}
-use Rattle.search.specs.declared.Candidate.{Candidate}
+use Rattle.candidates.specs.declared.Candidate.{Candidate}
 use Rattle.ledger.specs.declared.Entry.{Entry}
 use Rattle.ledger.specs.declared.Ledger.{Ledger}
 use Rattle.ledger.specs.declared.Got.{Got}

@@ -1,6 +1,8 @@
 pub mod Entries
 pub mod Laws
+pub mod Order
 pub mod Places
 pub mod Whole
 pub mod Putting
 pub mod Calls
+pub mod Lent

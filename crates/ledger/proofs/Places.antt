@@ -13,7 +13,7 @@ use borrow.Author.Tests.{le-leb, lt-leb, leb-true, leb-false, ltb-true}
 use Rattle.lists.proofs.Bools.{and-left, and-right, and-no, cases}
 use Rattle.grid.specs.declared.Grid.{Grid}
 use Rattle.grid.specs.Grid.{ceiling, onGrid}
-use Rattle.search.specs.Candidate.{centreOf}
+use Rattle.candidates.specs.Candidate.{centreOf}
 use Rattle.ledger.specs.declared.Entry.{Entry}
 use Rattle.ledger.specs.declared.Ledger.{Ledger}
 use Rattle.ledger.specs.declared.Got.the-variants.{Circle}

@@ -62,7 +62,22 @@ pub fn put_entry(grid: Grid, ledger: Ledger, entry: Entry) -> PutResult
 pub fn put_lent(ledger: &mut Ledger, grid: Grid, entry: Entry) -> PutAnswer
     ensures { λ r. ⌜ record { answer = putAnswer r; ledger = now (ledger .exit) } ≡ putCall grid (now (ledger .entry)) entry ⌝ }
 {
-    let result = put_entry(grid, *ledger, entry);
-    *ledger = result.ledger;
+    let before = *ledger;
+    let result = put_entry(grid, before, entry);
+    let after = result.ledger;
+    *ledger = after;
     result.answer
+}
+
+// From a ledger by value to one that is lent, and back: whoever calls this one needs no walk by hand.
+pub fn put_by_lending(grid: Grid, ledger: Ledger, entry: Entry) -> PutResult
+    ensures { λ r. ⌜ record { answer = putAnswer (r .answer); ledger = r .ledger } ≡ putCall grid ledger entry ⌝ }
+{
+    let mut lent = ledger;
+    let answer = put_lent(&mut lent, grid, entry);
+    let after = lent;
+    PutResult {
+        answer,
+        ledger: after,
+    }
 }

@@ -3,13 +3,14 @@ mod call;
 mod judge;
 mod store;
 
+pub use call::put_by_lending;
 pub use call::put_entry;
 pub use call::put_lent;
+use candidates::Candidate;
 use grid::RadiusKm;
 pub use judge::entry_in_bounds;
 pub use judge::ledger_in_order;
 pub use judge::places_free;
-use search::Candidate;
 pub use store::fresh;
 pub use store::get;
 pub use store::put;

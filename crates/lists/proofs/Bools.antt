@@ -61,6 +61,14 @@ pub or-right : (a b : Bool) → T b → T (a || b)
 or-right true b t = tt
 or-right false b t = t
 
+pub or-none : (b : Bool) → b ≡ (b || false)
+or-none true = refl
+or-none false = refl
+
+pub or-assoc : (p q r : Bool) → ((p || q) || r) ≡ (p || (q || r))
+or-assoc true q r = refl
+or-assoc false q r = refl
+
 -- ---- choices
 
 module _ {A : Type 0} where

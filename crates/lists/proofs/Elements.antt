@@ -17,6 +17,11 @@ module _ {A : Type 0} where
     here : {x : A} {xs : List A} → P x → AnyOf P (x ∷ xs)
     there : {x : A} {xs : List A} → AnyOf P xs → AnyOf P (x ∷ xs)
 
+  -- no element twice
+  pub data Distinct : List A → Type 0 where
+    empty : Distinct []
+    new : {x : A} {xs : List A} → AllOf (λ y. x ≡ y → ⊥) xs → Distinct xs → Distinct (x ∷ xs)
+
   -- f x₀ + f x₁ + ..
   unfoldable pub total : (A → ℕ) → List A → ℕ
   total f [] = 0
@@ -130,6 +135,11 @@ module _ {A B : Type 0} {P : B → Type 0} {Q : A → Type 0} where
   unfolding each
   any-each f g (here {x = x} q) = here (g x q)
   any-each f g (there a) = there (any-each f g a)
+
+  pub any-of-each : (f : A → B) → ((x : A) → P (f x) → Q x) → (xs : List A) → AnyOf P (each f xs) → AnyOf Q xs
+  unfolding each
+  any-of-each f g (x ∷ xs) (here p) = here (g x p)
+  any-of-each f g (x ∷ xs) (there a) = there (any-of-each f g xs a)
 
   pub all-concat : (f : A → List B) → ((x : A) → Q x → AllOf P (f x)) → {xs : List A} → AllOf Q xs → AllOf P (concatEach f xs)
   unfolding concatEach

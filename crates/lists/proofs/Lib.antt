@@ -4,5 +4,9 @@ pub mod Sums
 pub mod All
 pub mod Folds
 pub mod Fronts
+pub mod Writes
 pub mod Elements
 pub mod Sorts
+pub mod Insertion
+pub mod Groups
+pub mod Joins

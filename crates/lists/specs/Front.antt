@@ -1,7 +1,7 @@
 -- Lists by their elements, and a buffer whose front is overwritten while its tail stays.
-use Prim.Native.Nat.{ℕ, zero, suc}
+use Prim.Native.Nat.{ℕ, zero, suc, _+_}
 use mathlib.Core.List.{List, [], _∷_, _++_}
-use lib.ListN.{length, drop}
+use lib.ListN.{length, take, drop}
 
 module _ {A : Type 0} where
   -- f 0, f 1 .. f (n - 1)
@@ -12,6 +12,10 @@ module _ {A : Type 0} where
   -- l with xs over its front
   unfoldable pub onto : List A → List A → List A
   onto xs l = xs ++ drop (length xs) l
+
+  -- l with xs over it from place at on
+  abbrev pub written : ℕ → List A → List A → List A
+  written at xs l = take at l ++ xs ++ drop (at + length xs) l
 
   -- l with its first n elements replaced by f 0, f 1 .. f (n - 1)
   unfoldable pub over : (ℕ → A) → ℕ → List A → List A

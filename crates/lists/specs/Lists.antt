@@ -18,6 +18,11 @@ module _ {A : Type 0} where
   concatEach f [] = []
   concatEach f (x ∷ xs) = f x ++ concatEach f xs
 
+  -- the elements that pass a test, in their order
+  unfoldable pub filter : (A → Bool) → List A → List A
+  filter p [] = []
+  filter p (x ∷ xs) = let rest = filter p xs in cond (p x) (x ∷ rest) rest
+
   -- sorted by a test "at or before", each element put before the first that it is at or before
   unfoldable pub insert : (A → A → Bool) → A → List A → List A
   insert before x [] = x ∷ []
@@ -35,5 +40,5 @@ module _ {A : Type 0} where
 
 -- opens all of the above, for facts that are computed
 unfoldable pub lists : Unit {0}
-unfolding fold each concatEach insert sort pieces
+unfolding fold each concatEach filter insert sort pieces
 lists = tt

@@ -1,11 +1,11 @@
 // Ledgers: the one that a line lists, and whether a ledger is the listed one.
 use crate::words;
+use candidates::Candidate;
 use grid::Col;
 use grid::RadiusKm;
 use grid::Row;
 use ledger::Entry;
 use ledger::Ledger;
-use search::Candidate;
 
 // Where the numbers of an entry stand: km, row, col and population, behind the number of entries.
 fn place_of(i: usize) -> usize {

@@ -2,16 +2,16 @@
 // compared with the listed one.
 use crate::radii;
 use crate::words;
-use blocks::Spacing;
+use bounds::Spacing;
+use candidates::Candidate;
 use grid::Cell;
 use grid::Col;
 use grid::Grid;
 use grid::Row;
 use kernel::CircleAnswer;
-use search::Candidate;
+use levels::SearchStats;
 use search::MostPopulous;
 use search::SearchAnswer;
-use search::SearchStats;
 
 // A spacing of 0 is the automatic one.
 pub(crate) fn spacing_at(line: &[u64], at: usize) -> Spacing {
@@ -55,7 +55,7 @@ pub(crate) fn circle_agrees(
 // S: km; the automatic spacing.
 pub(crate) fn spacing_agrees(line: &[u64], grid: Grid) -> bool {
     let km = words::short_at(line, 0) as f64;
-    blocks::initial_spacing(grid, km) as u64 == words::word_at(line, 1)
+    bounds::initial_spacing(grid, km) as u64 == words::word_at(line, 1)
 }
 
 pub(crate) fn centre_agrees(line: &[u64], centre: Candidate) -> bool {

@@ -1,16 +1,16 @@
 // Smallest radii: the call, and the comparison of every field of its answer with the listed one.
 use crate::play;
 use crate::words;
-use blocks::Spacing;
+use bounds::Spacing;
 use grid::Grid;
 use ledger::Ledger;
+use measure::Target;
 use smallest::Ambiguity;
 use smallest::ShortBelow;
 use smallest::Smallest;
 use smallest::SmallestAnswer;
 use smallest::SmallestResult;
 use smallest::SmallestStats;
-use smallest::Target;
 
 // The call on the map's part of each array, with buffers for the largest map of the list.
 fn called(

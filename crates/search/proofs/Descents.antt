@@ -18,22 +18,23 @@ use Rattle.grid.specs.Map.{Map}
 use Rattle.grid.proofs.Sizes.{Sizes, grid-sizes}
 use Rattle.blocks.specs.declared.Block.{Block}
 use Rattle.blocks.specs.Block.{area, byProbe, tile, Rectangle}
-use Rattle.blocks.specs.Word.{wordOf, blocksOf, wordsByProbe, written, Tiled, CanTake}
+use Rattle.blocks.specs.Word.{wordOf, blocksOf, wordsByProbe, Tiled, CanTake}
 use Rattle.blocks.specs.Word as word
 use Rattle.blocks.proofs.Tiles.{length-area, tile-rectangle}
 use Rattle.blocks.proofs.TileWords.{tile-room}
 use Rattle.blocks.proofs.Words.{rectangle-small, blocks-onto, blocks-written, blocks-sorted}
-use Rattle.search.specs.declared.Held.{Held}
-use Rattle.search.specs.declared.Held.the-variants.{Nobody}
-use Rattle.search.specs.declared.Tally.{Tally}
-use Rattle.search.specs.declared.ChunkResult.{ChunkResult}
+use Rattle.candidates.specs.declared.Held.{Held}
+use Rattle.candidates.specs.declared.Held.the-variants.{Nobody}
+use Rattle.levels.specs.declared.Tally.{Tally}
+use Rattle.levels.specs.declared.ChunkResult.{ChunkResult}
 use Rattle.search.specs.declared.SearchResult.{SearchResult}
-use Rattle.search.specs.Level.{noTally, plus, plusStats, Outcome, level}
+use Rattle.levels.specs.Level.{noTally, plus, plusStats, Outcome, level}
 use Rattle.search.specs.Search.{Levels, levels, searched}
-use Rattle.search.specs.Weight.{weight, statsWeight}
-use Rattle.search.specs.Work.{mapOf, Ready}
-use Rattle.search.specs.Buffer.{children, CanSweep, Swept, levelOf, TwoBuffers, FirstLevel, withLevel}
-use Rattle.search.proofs.Counts.{Small, level-counts}
+use Rattle.levels.specs.Weight.{weight, statsWeight}
+use Rattle.levels.specs.Work.{mapOf, Ready}
+use Rattle.levels.specs.Buffer.{children, CanSweep, Swept, levelOf}
+use Rattle.search.specs.Buffer.{TwoBuffers, FirstLevel, withLevel}
+use Rattle.levels.proofs.Counts.{Small, level-counts}
 use Rattle.search.proofs.Levels.{after, Counted, blocks-fit, counted-first, counted-next, no-fuel, levels-none}
 use Rattle.search.proofs.Places.{Few, counted-few, cells-few}
 

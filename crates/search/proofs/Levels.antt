@@ -15,22 +15,22 @@ use Rattle.grid.specs.Grid.{cell, onGrid, before, cells}
 use Rattle.grid.specs.Map.{Map}
 use Rattle.kernel.specs.Circle.{population}
 use Rattle.blocks.specs.declared.Block.{Block}
-use Rattle.search.specs.declared.Candidate.{Candidate}
-use Rattle.search.specs.declared.Held.{Held}
-use Rattle.search.specs.declared.Held.the-variants.{Nobody, Best}
-use Rattle.search.specs.declared.Tally.{Tally}
+use Rattle.candidates.specs.declared.Candidate.{Candidate}
+use Rattle.candidates.specs.declared.Held.{Held}
+use Rattle.candidates.specs.declared.Held.the-variants.{Nobody, Best}
+use Rattle.levels.specs.declared.Tally.{Tally}
 use Rattle.search.specs.Best.{BestOf}
 use Rattle.blocks.specs.Block.{area, tile, Rectangle, Holds}
-use Rattle.search.specs.Candidate.{centreOf, candidate}
-use Rattle.search.specs.Level.{noTally, noStats, plus, plusStats, level}
+use Rattle.candidates.specs.Candidate.{centreOf, candidate}
+use Rattle.levels.specs.Level.{noTally, noStats, plus, plusStats, level}
 use Rattle.search.specs.Search.{Levels, levels, searched}
-use Rattle.blocks.proofs.Bounds.{Bounded}
-use Rattle.blocks.proofs.General.{of-on-grid}
-use Rattle.search.proofs.Order.{_≼_, fewer, later, equal, OfHeld}
+use Rattle.bounds.proofs.Bounds.{Bounded}
+use Rattle.grid.proofs.CellOrder.{of-on-grid}
+use Rattle.candidates.proofs.Order.{_≼_, fewer, later, equal, OfHeld}
 use Rattle.blocks.proofs.Tiles.{tile-area, tile-cover, tile-rectangle, length-area}
-use Rattle.search.proofs.Rule.{begun}
-use Rattle.search.proofs.Counts.{Small, rectangle-small, next, ended, decided, level-counts}
-use Rattle.search.proofs.Level.{Circle, Found, Step, level-step}
+use Rattle.levels.proofs.Rule.{begun}
+use Rattle.levels.proofs.Counts.{Small, rectangle-small, next, ended, decided, level-counts}
+use Rattle.levels.proofs.Finds.{Circle, Found, Step, level-step}
 
 -- ---- the induction
 

@@ -1,26 +1,15 @@
--- Counts far below their types' limits, and the chunks of a level, for any sheet.
+-- The counts of a search stay far below their types' limits, for any sheet.
 use Prim.Native.Nat.{ℕ, _+_, _*_, _≤_}
-use mathlib.Core.List.{List, [], _∷_}
+use mathlib.Core.List.{List}
 use native.Mathlib.Omega.{arith}
-use Rattle.lists.specs.Lists.{concatEach}
 use Rattle.lists.proofs.Sums.{times-le}
-use Rattle.lists.proofs.Elements.{AllOf, none, also, all-left, all-right}
 use Rattle.grid.specs.declared.Grid.{Grid}
 use Rattle.grid.specs.Grid.{cells}
 use Rattle.grid.proofs.Sizes.{Sizes}
 use Rattle.blocks.specs.declared.Block.{Block}
-use Rattle.search.specs.declared.Tally.{Tally}
-use Rattle.search.proofs.Counts.{ended}
+use Rattle.levels.specs.declared.Tally.{Tally}
+use Rattle.levels.proofs.Counts.{ended}
 use Rattle.search.proofs.Levels.{Counted}
-
--- ---- in a level
-
-pub all-of-concat : {P : Block → Type 0} (ps : List (List Block)) → AllOf P (concatEach (λ p. p) ps) → AllOf (AllOf P) ps
-unfolding concatEach
-all-of-concat [] a = none
-all-of-concat (p ∷ ps) a = also (all-left p (concatEach (λ q. q) ps) a) (all-of-concat ps (all-right p a))
-
--- ---- between levels
 
 pub cells-few : (g : Grid) → Sizes g → cells g ≤ 16200
 unfolding cells

@@ -12,10 +12,10 @@ use Rattle.table.specs.Table.{tables}
 use Rattle.kernel.specs.Circle.{circles}
 use Rattle.kernel.specs.Call.{circleCalls}
 use Rattle.blocks.specs.Block.{blocks}
-use Rattle.blocks.specs.Bound.{bounds}
-use Rattle.blocks.specs.Spacing.{spacings}
-use Rattle.search.specs.Candidate.{candidates}
-use Rattle.search.specs.Level.{leveling}
+use Rattle.bounds.specs.Bound.{bounds}
+use Rattle.bounds.specs.Spacing.{spacings}
+use Rattle.candidates.specs.Candidate.{candidates}
+use Rattle.levels.specs.Level.{leveling}
 use Rattle.search.specs.Search.{searching}
 use Rattle.search.specs.Call.{searchCalls}
 use Rattle.search.specs.Ring.{RingSearches, rings}

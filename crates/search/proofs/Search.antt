@@ -12,16 +12,16 @@ use Rattle.grid.specs.Grid.{cell, before, cells}
 use Rattle.grid.specs.Map.{Map}
 use Rattle.kernel.specs.Circle.{population}
 use Rattle.kernel.proofs.Populations.{population-zero}
-use Rattle.blocks.specs.declared.Spacing.{Spacing}
-use Rattle.blocks.specs.Spacing.{spacingOf}
-use Rattle.blocks.proofs.Bounds.{Bounded}
-use Rattle.blocks.proofs.General.{of-on-grid, Compared, first, same, second, compare, Earlier, north, west, earlier}
-use Rattle.search.specs.declared.Candidate.{Candidate}
-use Rattle.search.specs.declared.Held.{Held}
-use Rattle.search.specs.declared.Held.the-variants.{Best}
+use Rattle.bounds.specs.declared.Spacing.{Spacing}
+use Rattle.bounds.specs.Spacing.{spacingOf}
+use Rattle.bounds.proofs.Bounds.{Bounded}
+use Rattle.grid.proofs.CellOrder.{of-on-grid, Compared, first, same, second, compare, Earlier, north, west, earlier}
+use Rattle.candidates.specs.declared.Candidate.{Candidate}
+use Rattle.candidates.specs.declared.Held.{Held}
+use Rattle.candidates.specs.declared.Held.the-variants.{Best}
 use Rattle.search.specs.declared.MostPopulous.{MostPopulous}
 use Rattle.search.specs.Best.{BestOf}
-use Rattle.search.specs.Candidate.{centreOf, northWest}
+use Rattle.candidates.specs.Candidate.{centreOf, northWest}
 use Rattle.search.specs.Search.{Levels, searched, heldOr, mostPopulous, search}
 use Rattle.search.proofs.Levels.{searched-best, Tallied, searched-tallied}
 

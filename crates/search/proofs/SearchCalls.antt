@@ -18,13 +18,13 @@ use Rattle.table.specs.Summed.{countsMap, globeMap, Fillable}
 use Rattle.table.proofs.Tables.{fillable, bare-filled, globe-map, globe-summed}
 use Rattle.kernel.specs.Call.{radiusInRange}
 use Rattle.kernel.proofs.Calls.{map-refused, map-then}
-use Rattle.blocks.specs.declared.Spacing.{Spacing}
-use Rattle.blocks.specs.Spacing.{spacingGiven, spacingOf}
-use Rattle.search.specs.declared.Held.the-variants.{Nobody}
+use Rattle.bounds.specs.declared.Spacing.{Spacing}
+use Rattle.bounds.specs.Spacing.{spacingGiven, spacingOf}
+use Rattle.candidates.specs.declared.Held.the-variants.{Nobody}
 use Rattle.search.specs.declared.MostPopulous.{MostPopulous}
 use Rattle.search.specs.declared.SearchResult.{SearchResult}
-use Rattle.search.specs.Candidate.{northWest}
-use Rattle.search.specs.Level.{noTally}
+use Rattle.candidates.specs.Candidate.{northWest}
+use Rattle.levels.specs.Level.{noTally}
 use Rattle.search.specs.Search.{Levels, searched, heldOr, mostPopulous, search}
 use Rattle.search.specs.Call.{Buffers, buffersFit, buffersAfter, searchQuestions, searchCall}
 use Rattle.search.specs.Buffer.{CanSearch}

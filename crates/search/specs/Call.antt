@@ -14,8 +14,8 @@ use Rattle.kernel.specs.Call.{radiusInRange}
 use Rattle.search.specs.declared.MostPopulous.{MostPopulous}
 use Rattle.search.specs.declared.SearchAnswer.{SearchAnswer}
 use Rattle.search.specs.declared.SearchAnswer.the-variants as search-answer
-use Rattle.blocks.specs.declared.Spacing.{Spacing}
-use Rattle.blocks.specs.Spacing.{spacingGiven}
+use Rattle.bounds.specs.declared.Spacing.{Spacing}
+use Rattle.bounds.specs.Spacing.{spacingGiven}
 use Rattle.search.specs.Search.{search}
 
 -- the buffers that a call is lent: the sums and two level buffers

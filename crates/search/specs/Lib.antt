@@ -1,9 +1,5 @@
 pub mod Best
-pub mod Candidate
-pub mod Level
 pub mod Search
 pub mod Call
 pub mod Ring
-pub mod Weight
-pub mod Work
 pub mod Buffer

@@ -13,11 +13,11 @@ use Rattle.grid.specs.Map.{Globe, Map}
 use Rattle.grid.specs.Answer.{firstNo, Answer, answered}
 use Rattle.grid.specs.Questions.{mapQuestions}
 use Rattle.search.specs.declared.MostPopulous.{MostPopulous}
-use Rattle.blocks.specs.declared.Spacing.the-variants.{Cells}
-use Rattle.search.specs.Candidate.{candidateOf, northWest}
-use Rattle.search.specs.Level.{stats, tally, noTally}
+use Rattle.bounds.specs.declared.Spacing.the-variants.{Cells}
+use Rattle.candidates.specs.Candidate.{candidateOf, northWest}
+use Rattle.levels.specs.Level.{stats, tally, noTally}
 use Rattle.search.specs.Search.{mostPopulous}
-use Rattle.blocks.specs.Spacing.{initialSpacing}
+use Rattle.bounds.specs.Spacing.{initialSpacing}
 use Rattle.search.specs.Call.{Buffers, searchCall}
 
 -- G 4 1 45.0 90.0 -90.0, offset 1 a quarter turn, offset 2 half a turn, cosine 1

@@ -8,16 +8,16 @@ use Rattle.floats.specs.Binary.{whole}
 use Rattle.lists.specs.Lists.{concatEach}
 use Rattle.grid.specs.Map.{Map}
 use Rattle.blocks.specs.declared.Block.{Block}
-use Rattle.search.specs.declared.Candidate.{Candidate}
-use Rattle.search.specs.declared.Held.{Held}
-use Rattle.search.specs.declared.Held.the-variants.{Nobody, Best}
+use Rattle.candidates.specs.declared.Candidate.{Candidate}
+use Rattle.candidates.specs.declared.Held.{Held}
+use Rattle.candidates.specs.declared.Held.the-variants.{Nobody, Best}
 use Rattle.search.specs.declared.MostPopulous.{MostPopulous}
-use Rattle.blocks.specs.declared.Spacing.{Spacing}
-use Rattle.search.specs.declared.Tally.{Tally}
+use Rattle.bounds.specs.declared.Spacing.{Spacing}
+use Rattle.levels.specs.declared.Tally.{Tally}
 use Rattle.blocks.specs.Block.{tile, split}
-use Rattle.blocks.specs.Spacing.{spacingOf}
-use Rattle.search.specs.Candidate.{northWest}
-use Rattle.search.specs.Level.{Outcome, noTally, plus, level}
+use Rattle.bounds.specs.Spacing.{spacingOf}
+use Rattle.candidates.specs.Candidate.{northWest}
+use Rattle.levels.specs.Level.{Outcome, noTally, plus, level}
 
 -- what the levels have come to
 pub record Levels : Type 0 where

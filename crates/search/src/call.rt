@@ -1,21 +1,21 @@
 // The search: at a radius of an accepted map, and as the call that puts its questions first.
-use crate::Candidate;
-use crate::Held;
 use crate::MostPopulous;
 use crate::SearchAnswer;
 use crate::SearchResult;
 use crate::descend;
-use blocks::Spacing;
+use bounds::Spacing;
+use candidates::Candidate;
+use candidates::Held;
 use grid::Col;
 use grid::Grid;
 use grid::RadiusKm;
 use grid::Row;
 ghost use mathlib.Core.Path.{_≡_};
 ghost use Rattle.grid.specs.Answer.{firstNo, shown};
-ghost use Rattle.search.specs.Candidate.{northWest};
+ghost use Rattle.candidates.specs.Candidate.{northWest};
 ghost use Rattle.search.specs.Search.{heldOr, mostPopulous, search};
 ghost use Rattle.search.specs.Call.{buffersFit, searchQuestions, searchAnswer, searchCall};
-ghost use Rattle.search.specs.Work.{mapOf};
+ghost use Rattle.levels.specs.Work.{mapOf};
 ghost use Rattle.search.specs.Buffer.{CanSearch};
 
 // What is held, or the cell (0, 0) with nobody.
@@ -65,7 +65,7 @@ pub fn search_at(
         return answer_of(none, km);
     }
     let radius = km as f64;
-    let side = blocks::spacing_of(grid, radius, spacing);
+    let side = bounds::spacing_of(grid, radius, spacing);
     let found = descend::searched(grid, angles, cosines, sums, radius, side, near, far);
     answer_of(found, km)
 }
@@ -108,7 +108,7 @@ fn search_refusal(
     if !kernel::radius_in_range(grid, km) {
         return 8;
     }
-    if !blocks::spacing_given(spacing) {
+    if !bounds::spacing_given(spacing) {
         return 10;
     }
     0

@@ -1,19 +1,18 @@
 // Levels until no block is left: each level's children come back to the first buffer in probe order.
-use crate::ChunkResult;
-use crate::Held;
 use crate::SearchResult;
-use crate::SearchStats;
-use crate::Tally;
-use crate::cut;
+use candidates::Held;
 use grid::Grid;
+use levels::ChunkResult;
+use levels::SearchStats;
+use levels::Tally;
 ghost use mathlib.Core.Path.{_≡_};
 ghost use Prim.Native.Nat.{_+_, _≤_, _^_};
-ghost use Rattle.search.specs.Level.{noTally};
-ghost use Rattle.search.specs.Weight.{weight};
+ghost use Rattle.levels.specs.Level.{noTally};
+ghost use Rattle.levels.specs.Weight.{weight};
 ghost use Rattle.search.specs.Search.{Levels, searched};
-ghost use Rattle.search.specs.Work.{mapOf, Ready};
+ghost use Rattle.levels.specs.Work.{mapOf, Ready};
 ghost use Rattle.search.specs.Buffer.{TwoBuffers, FirstLevel, withLevel};
-ghost use Rattle.search.specs.declared.Held.the-variants.{Nobody};
+ghost use Rattle.candidates.specs.declared.Held.the-variants.{Nobody};
 
 // Nothing held and nothing counted.
 pub(crate) fn nothing() -> SearchResult
@@ -53,7 +52,7 @@ fn with_level(found: SearchResult, level: ChunkResult) -> SearchResult
     let held = level.held;
     let counted = found.tally;
     let more = level.tally;
-    let tally = crate::plus(counted, more);
+    let tally = levels::plus(counted, more);
     SearchResult { held, tally }
 }
 
@@ -75,7 +74,7 @@ pub(crate) fn searched(
     let mut found = nothing();
     while 0 < live {
         let best = found.held;
-        let level = cut::level(grid, angles, cosines, sums, near, live, km, best, far);
+        let level = levels::level(grid, angles, cosines, sums, near, live, km, best, far);
         found = with_level(found, level);
         live = level.live;
         blocks::insert_from(far, live, near);

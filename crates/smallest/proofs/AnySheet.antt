@@ -15,27 +15,28 @@ use Rattle.table.specs.Table.{total}
 use Rattle.kernel.specs.Circle.{population}
 use Rattle.kernel.proofs.Populations.{population-total}
 use Rattle.blocks.specs.declared.Block.{Block}
-use Rattle.blocks.specs.declared.Spacing.{Spacing}
+use Rattle.bounds.specs.declared.Spacing.{Spacing}
 use Rattle.blocks.specs.Block.{probe, tile, Rectangle}
-use Rattle.blocks.specs.Bound.{wideKm}
-use Rattle.blocks.specs.Spacing.{spacingOf}
-use Rattle.blocks.proofs.General.{of-on-grid}
+use Rattle.bounds.specs.Bound.{wideKm}
+use Rattle.bounds.specs.Spacing.{spacingOf}
+use Rattle.grid.proofs.CellOrder.{of-on-grid}
 use Rattle.blocks.proofs.Tiles.{probe-held}
-use Rattle.search.specs.declared.Candidate.{Candidate}
-use Rattle.search.specs.declared.Held.{Held}
-use Rattle.search.specs.declared.Held.the-variants.{Nobody, Best}
-use Rattle.search.specs.declared.Tally.{Tally}
-use Rattle.search.specs.Candidate.{centreOf, candidate, northWest, prunes}
-use Rattle.search.specs.Level.{Outcome, Work, noTally, noStats, pruned, evaluated, examine, started, joined, level}
+use Rattle.candidates.specs.declared.Candidate.{Candidate}
+use Rattle.candidates.specs.declared.Held.{Held}
+use Rattle.candidates.specs.declared.Held.the-variants.{Nobody, Best}
+use Rattle.levels.specs.declared.Tally.{Tally}
+use Rattle.candidates.specs.Candidate.{centreOf, candidate, northWest, prunes}
+use Rattle.levels.specs.Level.{Outcome, Work, noTally, noStats, pruned, evaluated, examine, started, joined, level}
 use Rattle.search.specs.Search.{Levels, searched, heldOr, search}
-use Rattle.search.specs.Weight.{statsWeight}
-use Rattle.search.proofs.Order.{OfHeld, better-of}
-use Rattle.search.proofs.Rule.{Kept, level-rule}
-use Rattle.search.proofs.Counts.{next}
-use Rattle.search.proofs.Level.{Circle}
+use Rattle.levels.specs.Weight.{statsWeight}
+use Rattle.candidates.proofs.Order.{OfHeld, better-of}
+use Rattle.levels.proofs.Rule.{Kept, level-rule}
+use Rattle.levels.proofs.Counts.{next}
+use Rattle.levels.proofs.Finds.{Circle}
 use Rattle.search.proofs.Levels.{after, levels-rule, Counted, counted-first, counted-next, no-fuel, Tallied}
 use Rattle.search.proofs.Search.{found, search-is, search-tallied}
-use Rattle.smallest.specs.State.{InBounds, searchWeight}
+use Rattle.ledger.specs.Places.{InBounds}
+use Rattle.smallest.specs.State.{searchWeight}
 use Rattle.smallest.proofs.Kept.{SearchSound}
 
 -- ---- what is held is a circle

@@ -9,18 +9,21 @@ use Rattle.grid.specs.Map.{Map}
 use Rattle.grid.proofs.Sizes.{grid-sizes}
 use Rattle.table.specs.Table.{total}
 use Rattle.table.proofs.Tables.{bare-total}
-use Rattle.blocks.specs.declared.Spacing.{Spacing}
-use Rattle.search.specs.declared.Candidate.{Candidate}
+use Rattle.bounds.specs.declared.Spacing.{Spacing}
+use Rattle.candidates.specs.declared.Candidate.{Candidate}
 use Rattle.search.specs.declared.MostPopulous.{MostPopulous}
 use Rattle.search.specs.Search.{search}
-use Rattle.search.specs.Work.{mapOf, Ready}
+use Rattle.levels.specs.Work.{mapOf, Ready}
 use Rattle.ledger.specs.declared.Got.the-variants.{Circle, Nothing}
 use Rattle.ledger.specs.Ledger.{entry, get, put}
+use Rattle.ledger.specs.Places.{InBounds}
+use Rattle.ledger.proofs.Calls.{room-free}
+use Rattle.ledger.proofs.Order.{got-in-bounds, ordered}
 use Rattle.smallest.specs.declared.RunState.{RunState}
 use Rattle.smallest.specs.Call.{mostRadii}
-use Rattle.smallest.specs.State.{reusedMore, evaluatedMore, noted, stateWith, stateAfter, probesOf, InBounds, InOrder}
+use Rattle.smallest.specs.State.{reusedMore, evaluatedMore, noted, stateWith, stateAfter, probesOf, InOrder}
 use Rattle.smallest.specs.Probing.{CanNote, CanEvaluate}
-use Rattle.smallest.proofs.Kept.{SearchSound, got-in-bounds, put-room}
+use Rattle.smallest.proofs.Kept.{SearchSound}
 use Rattle.smallest.proofs.AnySheet.{search-sound}
 
 -- the people of a table's map, exactly
@@ -43,7 +46,7 @@ module _ {g : Grid} {s : RunState} (km : ℕ) (i : InOrder g s) (few : probesOf 
   can-evaluate {f} k e =
       record {
         note = can-note (f .centre) (k .centre);
-        room = put-room g (s .ledger) km (f .centre) (i .ledger) (omega (arith, i .room)) e;
+        room = room-free (s .ledger) (entry km (f .centre)) (omega (arith, i .room)) (ordered g (s .ledger) (i .ledger) .rising);
         light = omega (arith, i .light, k .light);
       }
 

@@ -2,7 +2,8 @@
 use mathlib.Core.Path.{refl}
 use Rattle.search.proofs.Ring.{ring-open, ring-searches}
 use Rattle.ledger.specs.Ledger.{ledgers}
-use Rattle.smallest.specs.Climb.{climbs}
+use Rattle.climb.specs.Climb.{climbs}
+use Rattle.measure.specs.Target.{measures}
 use Rattle.smallest.specs.Probes.{probes}
 use Rattle.smallest.specs.Smallest.{smallests}
 use Rattle.smallest.specs.Call.{smallestCalls}
@@ -10,7 +11,7 @@ use Rattle.smallest.specs.Ring.{MarkedFacts, ringLines}
 
 -- all that a smallest-radius call is made of beside a search, for facts that are computed
 unfoldable pub smallest-open : Unit {0}
-unfolding ledgers climbs probes smallests smallestCalls ringLines
+unfolding ledgers climbs measures probes smallests smallestCalls ringLines
 smallest-open = tt
 
 pub marked-facts : MarkedFacts

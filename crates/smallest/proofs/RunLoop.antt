@@ -11,35 +11,39 @@ use Rattle.lists.proofs.Bools.{cases, is-true}
 use Rattle.grid.specs.declared.Grid.{Grid}
 use Rattle.grid.specs.Grid.{ceiling, cell}
 use Rattle.grid.specs.Map.{Map}
+use Rattle.grid.proofs.Ceiling.{ceiling-least, ceiling-most}
 use Rattle.grid.proofs.Sizes.{Sizes, grid-sizes}
 use Rattle.table.specs.Table.{total}
-use Rattle.blocks.specs.declared.Spacing.{Spacing}
-use Rattle.blocks.proofs.General.{of-on-grid}
-use Rattle.search.specs.declared.Candidate.{Candidate}
-use Rattle.search.specs.Candidate.{northWest}
-use Rattle.search.specs.Level.{noStats}
+use Rattle.bounds.specs.declared.Spacing.{Spacing}
+use Rattle.grid.proofs.CellOrder.{of-on-grid}
+use Rattle.candidates.specs.declared.Candidate.{Candidate}
+use Rattle.candidates.specs.Candidate.{northWest}
+use Rattle.levels.specs.Level.{noStats}
 use Rattle.search.specs.Search.{search}
-use Rattle.search.specs.Weight.{statsWeight}
-use Rattle.search.specs.Work.{mapOf}
+use Rattle.levels.specs.Weight.{statsWeight}
+use Rattle.levels.specs.Work.{mapOf}
 use Rattle.ledger.specs.declared.Ledger.{Ledger}
 use Rattle.ledger.specs.Ledger.{ledgerInOrder, placesFree}
 use Rattle.ledger.proofs.Laws.{places-free}
-use Rattle.smallest.specs.declared.Bracket.{Bracket}
+use Rattle.climb.specs.declared.Bracket.{Bracket}
+use Rattle.climb.specs.Climb.{Ended, climb, climbRadii}
+use Rattle.climb.specs.Next.{bracketStart, bracketClosed, nextRadius, bracketNext}
+use Rattle.climb.proofs.NextRadii.{Stage, stage-start, stage-open, left, left-start, stage-next, left-reached, left-short}
+use Rattle.measure.specs.declared.Target.{Target}
+use Rattle.measure.specs.Target.{reaches, shareOf, predicateSlackPersons}
 use Rattle.smallest.specs.declared.RunState.{RunState}
-use Rattle.smallest.specs.declared.Target.{Target}
-use Rattle.smallest.specs.Climb.{Ended, climb, climbRadii}
-use Rattle.smallest.specs.Probes.{Run, targetPersons, reaches, probed, latest, smallestRun}
-use Rattle.smallest.specs.Smallest.{Settled, target, shareOf, predicateSlackPersons, smallestAt, concluded, smallest}
+use Rattle.smallest.specs.Probes.{Run, targetPersons, probed, latest, smallestRun}
+use Rattle.smallest.specs.Smallest.{Settled, target, smallestAt, concluded, smallest}
 use Rattle.smallest.specs.Call.{mostRadii}
-use Rattle.smallest.specs.Next.{bracketStart, bracketClosed, nextRadius, bracketNext}
 use Rattle.smallest.specs.State.{begun, stateAfter, probesOf, radiiOf, InOrder, answerBy, settledBy}
 use Rattle.smallest.specs.Probing.{CanProbe, CanRun, Ran}
-use Rattle.smallest.proofs.General.{ceiling-least, ceiling-most}
-use Rattle.smallest.proofs.NextRadii.{Stage, stage-start, stage-open, left, left-start, stage-next, left-reached, left-short}
-use Rattle.smallest.proofs.Traces.{starting, lastKm}
-use Rattle.smallest.proofs.States.{Tracks, tracks-begun, tracks-next}
+use Rattle.smallest.proofs.States.{starting, Tracks, tracks-begun, tracks-next}
 use Rattle.smallest.proofs.Kept.{SearchSound, in-order-next}
 use Rattle.smallest.proofs.Probes.{people-exact, ready-sound}
+
+-- the kilometre below the ceiling
+abbrev pub lastKm : Map → ℕ
+lastKm m = ceiling (m .globe .grid) - 1
 
 -- ---- the next bracket
 

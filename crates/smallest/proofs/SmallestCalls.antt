@@ -19,29 +19,30 @@ use Rattle.grid.proofs.Answers.{Passed, map-append, firstNo-yes, firstNo-no, pa
 use Rattle.table.specs.Table.{total, filledSums}
 use Rattle.table.specs.Summed.{countsMap, globeMap, tableMap, Fillable}
 use Rattle.table.proofs.Tables.{bare-filled, bare-total, globe-map}
-use Rattle.kernel.specs.Circle.{angleTo, inCircle}
+use Rattle.kernel.specs.Circle.{angleTo, inCircle, coversWholeGrid}
 use Rattle.kernel.specs.Kernel.{globeOf, sheetOf, OnSheet}
 use Rattle.kernel.specs.Call.{radiusInRange}
 use Rattle.kernel.proofs.Calls.{map-refused, map-then}
-use Rattle.blocks.specs.declared.Spacing.{Spacing}
-use Rattle.blocks.specs.Spacing.{spacingGiven}
+use Rattle.bounds.specs.declared.Spacing.{Spacing}
+use Rattle.bounds.specs.Spacing.{spacingGiven}
 use Rattle.search.specs.Call.{Buffers, buffersFit, buffersAfter}
-use Rattle.search.specs.Work.{mapOf}
+use Rattle.levels.specs.Work.{mapOf}
 use Rattle.search.proofs.SearchCalls as searching
 use Rattle.search.proofs.SearchCalls.{SearchPassed, to-search}
 use Rattle.ledger.specs.declared.Ledger.{Ledger}
 use Rattle.ledger.specs.Ledger.{ledgerInOrder, placesFree}
-use Rattle.smallest.specs.declared.Bracket.{Bracket}
+use Rattle.climb.specs.declared.Bracket.{Bracket}
+use Rattle.measure.specs.declared.Target.{Target}
+use Rattle.measure.specs.Target.{predicateSlackPersons, shareInRange, targetOf}
 use Rattle.smallest.specs.declared.RunEnd.{RunEnd}
 use Rattle.smallest.specs.declared.RunState.{RunState}
 use Rattle.smallest.specs.declared.Smallest.{Smallest}
 use Rattle.smallest.specs.declared.SmallestResult.{SmallestResult}
 use Rattle.smallest.specs.declared.SmallestAnswer.the-variants.{Found}
-use Rattle.smallest.specs.declared.Target.{Target}
 use Rattle.smallest.specs.Probes.{targetPersons}
-use Rattle.smallest.specs.Smallest.{Settled, target, predicateSlackPersons, coversWholeGrid, smallest}
-use Rattle.smallest.specs.Call.{shareInRange, mostRadii, smallestQuestions, smallestCall, smallestAnswer}
-use Rattle.smallest.specs.State.{targetOf, answerBy, settledBy}
+use Rattle.smallest.specs.Smallest.{Settled, target, smallest}
+use Rattle.smallest.specs.Call.{mostRadii, smallestQuestions, smallestCall, smallestAnswer}
+use Rattle.smallest.specs.State.{answerBy, settledBy}
 use Rattle.smallest.specs.Probing.{CanRun, Ran, CanConclude, CanSettle, IsSettled, ownQuestions}
 use Rattle.smallest.proofs.Probes.{people-exact}
 

@@ -1,29 +1,45 @@
 -- The state of a run against the definition's run: what it tracks of the probes.
-use Prim.Native.Nat.{ℕ, _+_}
+use Prim.Native.Nat.{ℕ, suc, _+_}
 use mathlib.Core.Path.{_≡_, refl, ap}
-use mathlib.Core.Bool.{true, false, cond}
-use mathlib.Core.List.{_∷_}
+use mathlib.Core.Bool.{Bool, true, false, cond, not}
+use mathlib.Core.List.{List, [], _∷_}
 use native.Mathlib.Nat.{add-zero}
+use native.Mathlib.Omega.{arith}
 use lib.Dec.{eqb}
+use lib.ListN.{length}
 use lib.Ieee.{Float}
 use borrow.Author.Tests.{eq-eqb}
 use Rattle.lists.specs.Counted.{one}
 use Rattle.lists.proofs.Bools.{cases, and-no}
 use Rattle.grid.specs.Map.{Map}
-use Rattle.blocks.specs.declared.Spacing.{Spacing}
-use Rattle.search.specs.declared.SearchStats.{SearchStats}
-use Rattle.search.specs.Level.{noStats, plusStats}
+use Rattle.bounds.specs.declared.Spacing.{Spacing}
+use Rattle.levels.specs.declared.SearchStats.{SearchStats}
+use Rattle.levels.specs.Level.{noStats, plusStats}
 use Rattle.search.specs.Search.{search}
 use Rattle.ledger.specs.declared.Got.{Got}
 use Rattle.ledger.specs.declared.Got.the-variants.{Circle, Nothing}
 use Rattle.ledger.specs.declared.Ledger.{Ledger}
 use Rattle.ledger.specs.Ledger.{entry, get, put}
+use Rattle.measure.specs.Target.{reaches}
 use Rattle.smallest.specs.declared.RunState.{RunState}
 use Rattle.smallest.specs.declared.SmallestStats.{SmallestStats}
-use Rattle.smallest.specs.Probes.{Probe, Run, reaches, reusedAt, searchedAt, probedWith, probed, latestOf, latest, howMany, evaluatedIn, reusedIn, statsOf}
+use Rattle.smallest.specs.Probes.{Probe, Run, reusedAt, searchedAt, probedWith, probed, latestOf, latest, howMany, evaluatedIn, reusedIn, statsOf}
 use Rattle.smallest.specs.Smallest.{shortBelow, ambiguity}
 use Rattle.smallest.specs.State.{counts, begun, reusedMore, evaluatedMore, shortAfter, ambiguityAfter, noted, stateWith, stateAfter}
-use Rattle.smallest.proofs.Traces.{starting}
+
+-- a run that has not begun
+abbrev pub starting : Ledger → Run
+starting l = record { trace = []; ledger = l }
+
+-- every probe is counted once
+pub counted-once : (ps : List Probe) → evaluatedIn ps + reusedIn ps ≡ length ps
+unfolding evaluatedIn reusedIn howMany one
+counted-once [] = refl
+counted-once (p ∷ ps) = go (p .reused) (counted-once ps)
+  where
+    go : (b : Bool) → evaluatedIn ps + reusedIn ps ≡ length ps → (evaluatedIn ps + cond (not b) 1 0) + (reusedIn ps + cond b 1 0) ≡ suc (length ps)
+    go true e = omega arith
+    go false e = omega arith
 
 -- ---- what the state tracks
 

@@ -1,25 +1,20 @@
 -- The smallest-radius call.
 use Prim.Native.Nat.{ℕ}
-use mathlib.Core.Bool.{Bool, _&&_}
 use mathlib.Core.List.{List, [], _∷_, _++_}
-use lib.Ieee.{Float, le, lt}
-use Rattle.floats.specs.Binary.{whole, finite}
+use lib.Ieee.{Float}
 use Rattle.grid.specs.Map.{Map}
 use Rattle.grid.specs.Answer.{Question, question, firstNo, Answer, answered, refused, decide, after}
 use Rattle.grid.specs.Questions.{mapQuestions}
-use Rattle.blocks.specs.declared.Spacing.{Spacing}
-use Rattle.blocks.specs.Spacing.{spacingGiven}
+use Rattle.bounds.specs.declared.Spacing.{Spacing}
+use Rattle.bounds.specs.Spacing.{spacingGiven}
 use Rattle.search.specs.Call.{Buffers, buffersFit, buffersAfter}
 use Rattle.ledger.specs.declared.Ledger.{Ledger}
 use Rattle.ledger.specs.Ledger.{ledgerInOrder, placesFree}
+use Rattle.measure.specs.Target.{shareInRange}
 use Rattle.smallest.specs.declared.Smallest.{Smallest}
 use Rattle.smallest.specs.declared.SmallestAnswer.{SmallestAnswer}
 use Rattle.smallest.specs.declared.SmallestAnswer.the-variants as smallest-answer
-use Rattle.smallest.specs.Smallest.{Settled, smallest}
-
--- question 9
-unfoldable pub shareInRange : Float → Bool
-shareInRange share = finite share && lt (whole 0) share && le share (whole 1)
+use Rattle.smallest.specs.Smallest.{smallest}
 
 -- the most radii that a call probes
 abbrev pub mostRadii : ℕ
@@ -50,5 +45,5 @@ smallestAnswer (smallest-answer.Refused n) = refused n
 
 -- opens all of the above, for facts that are computed
 unfoldable pub smallestCalls : Unit {0}
-unfolding shareInRange smallestQuestions smallestCall smallestAnswer
+unfolding smallestQuestions smallestCall smallestAnswer
 smallestCalls = tt

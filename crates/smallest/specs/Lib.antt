@@ -1,10 +1,6 @@
-pub mod Climb
 pub mod Probes
 pub mod Smallest
 pub mod Call
-pub mod Next
 pub mod State
 pub mod Probing
 pub mod Ring
-pub mod Demand3
-pub mod Unfair

@@ -1,36 +1,32 @@
 -- The probes of a smallest-radius call: each taken from the ledger or searched and put, in a trace that every count is read from.
-use Prim.Native.Nat.{ℕ, _+_, _-_, min}
-use mathlib.Core.Bool.{Bool, true, false, cond, not, _&&_}
+use Prim.Native.Nat.{ℕ, _+_, _-_}
+use mathlib.Core.Bool.{Bool, true, false, not}
 use mathlib.Core.List.{List, [], _∷_}
-use lib.Ieee.{Float, le}
-use lib.Dec.{eqb}
+use lib.Ieee.{Float}
 use Rattle.floats.specs.Binary.{whole, _⊗_}
 use Rattle.lists.specs.Counted.{one}
 use Rattle.grid.specs.Map.{Map}
 use Rattle.grid.specs.Grid.{ceiling}
 use Rattle.table.specs.Table.{total}
-use Rattle.search.specs.declared.Candidate.{Candidate}
+use Rattle.candidates.specs.declared.Candidate.{Candidate}
 use Rattle.search.specs.declared.MostPopulous.{MostPopulous}
-use Rattle.search.specs.declared.SearchStats.{SearchStats}
-use Rattle.blocks.specs.declared.Spacing.{Spacing}
-use Rattle.search.specs.Candidate.{northWest}
-use Rattle.search.specs.Level.{noStats, plusStats}
+use Rattle.levels.specs.declared.SearchStats.{SearchStats}
+use Rattle.bounds.specs.declared.Spacing.{Spacing}
+use Rattle.candidates.specs.Candidate.{northWest}
+use Rattle.levels.specs.Level.{noStats, plusStats}
 use Rattle.search.specs.Search.{search}
 use Rattle.ledger.specs.declared.Got.{Got}
 use Rattle.ledger.specs.declared.Got.the-variants.{Circle, Nothing}
 use Rattle.ledger.specs.declared.Ledger.{Ledger}
 use Rattle.ledger.specs.Ledger.{entry, get, put}
-use Rattle.smallest.specs.Climb.{Ended, climb, climbRadii}
+use Rattle.measure.specs.Target.{reaches}
+use Rattle.climb.specs.Climb.{Ended, climb, climbRadii}
 
 -- ---- the target
 
 -- share × total, one rounding
 unfoldable pub targetPersons : Map → Float → Float
 targetPersons m share = share ⊗ whole (total m)
-
--- a population reaches the target when at least as large
-unfoldable pub reaches : Float → Candidate → Bool
-reaches persons c = le persons (whole (c .population))
 
 -- ---- a probe
 
@@ -97,5 +93,5 @@ statsOf (p ∷ ps) = plusStats (statsOf ps) (p .stats)
 
 -- opens all of the above, for facts that are computed
 unfoldable pub probes : Unit {0}
-unfolding targetPersons reaches reusedAt searchedAt probedWith probed latestOf latest smallestRun howMany evaluatedIn reusedIn statsOf
+unfolding targetPersons reusedAt searchedAt probedWith probed latestOf latest smallestRun howMany evaluatedIn reusedIn statsOf
 probes = tt

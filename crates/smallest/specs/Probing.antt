@@ -10,24 +10,25 @@ use Rattle.grid.specs.Answer.{Question, question}
 use Rattle.grid.specs.Map.{Map}
 use Rattle.table.specs.Table.{total}
 use Rattle.kernel.specs.Kernel.{Sheet}
-use Rattle.blocks.specs.declared.Spacing.{Spacing}
-use Rattle.blocks.specs.Spacing.{spacingGiven}
-use Rattle.search.specs.declared.Candidate.{Candidate}
+use Rattle.bounds.specs.declared.Spacing.{Spacing}
+use Rattle.bounds.specs.Spacing.{spacingGiven}
+use Rattle.candidates.specs.declared.Candidate.{Candidate}
 use Rattle.search.specs.declared.MostPopulous.{MostPopulous}
-use Rattle.search.specs.Weight.{statsWeight}
-use Rattle.search.specs.Work.{mapOf}
+use Rattle.levels.specs.Weight.{statsWeight}
+use Rattle.levels.specs.Work.{mapOf}
 use Rattle.search.specs.Buffer.{CanSearch}
 use Rattle.ledger.specs.declared.Ledger.{Ledger}
 use Rattle.ledger.specs.Ledger.{entry, ledgerInOrder, placesFree}
-use Rattle.ledger.specs.Places.{PutRoom}
+use Rattle.ledger.specs.Places.{PutRoom, InBounds}
+use Rattle.measure.specs.declared.Target.{Target}
+use Rattle.measure.specs.Target.{predicateSlackPersons, shareInRange}
 use Rattle.smallest.specs.declared.RunEnd.{RunEnd}
 use Rattle.smallest.specs.declared.RunState.{RunState}
 use Rattle.smallest.specs.declared.SmallestAnswer.the-variants.{Found}
 use Rattle.smallest.specs.declared.SmallestResult.{SmallestResult}
-use Rattle.smallest.specs.declared.Target.{Target}
-use Rattle.smallest.specs.Smallest.{Settled, target, predicateSlackPersons, smallest}
-use Rattle.smallest.specs.Call.{shareInRange, mostRadii}
-use Rattle.smallest.specs.State.{probesOf, radiiOf, InBounds, InOrder, settledBy}
+use Rattle.smallest.specs.Smallest.{Settled, target, smallest}
+use Rattle.smallest.specs.Call.{mostRadii}
+use Rattle.smallest.specs.State.{probesOf, radiiOf, InOrder, settledBy}
 
 -- ---- a probe
 

@@ -9,9 +9,9 @@ use Rattle.floats.specs.Binary.{whole}
 use Rattle.grid.specs.Grid.{cell}
 use Rattle.grid.specs.Map.{Map}
 use Rattle.grid.specs.Answer.{Answer, answered, refused}
-use Rattle.search.specs.declared.Candidate.{Candidate}
-use Rattle.blocks.specs.declared.Spacing.the-variants.{Cells}
-use Rattle.search.specs.Candidate.{candidateOf}
+use Rattle.candidates.specs.declared.Candidate.{Candidate}
+use Rattle.bounds.specs.declared.Spacing.the-variants.{Cells}
+use Rattle.candidates.specs.Candidate.{candidateOf}
 use Rattle.search.specs.Ring.{ring, emptyRing, ringBuffers, RingSearches}
 use Rattle.ledger.specs.declared.Entry.{Entry}
 use Rattle.smallest.specs.declared.Ambiguity.{Ambiguity}

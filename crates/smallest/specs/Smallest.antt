@@ -2,36 +2,30 @@
 use Prim.Native.Nat.{ℕ, _+_, min}
 use mathlib.Core.Bool.{Bool, true, cond, not, _&&_}
 use mathlib.Core.List.{List, [], _∷_}
-use lib.Ieee.{Float, le}
+use lib.Ieee.{Float}
 use lib.Dec.{eqb}
-use Rattle.floats.specs.Binary.{whole, _⊕_, _⊖_, _⊗_, _⊘_, absolute, nextUp}
-use Rattle.lists.specs.Counted.{allBelow, max}
-use Rattle.grid.specs.declared.Grid.{Grid}
-use Rattle.grid.specs.declared.Row.{Row}
-use Rattle.grid.specs.Grid.{ceiling, cell}
-use Rattle.grid.specs.Numbers.{ε}
-use Rattle.grid.specs.Map.{Globe, Map}
+use Rattle.floats.specs.Binary.{whole}
+use Rattle.lists.specs.Counted.{max}
+use Rattle.grid.specs.Grid.{ceiling}
+use Rattle.grid.specs.Map.{Map}
 use Rattle.table.specs.Table.{total}
-use Rattle.kernel.specs.Circle.{inCircle}
-use Rattle.search.specs.declared.Candidate.{Candidate}
-use Rattle.blocks.specs.declared.Spacing.{Spacing}
-use Rattle.search.specs.Candidate.{northWest}
+use Rattle.kernel.specs.Circle.{coversWholeGrid}
+use Rattle.candidates.specs.declared.Candidate.{Candidate}
+use Rattle.bounds.specs.declared.Spacing.{Spacing}
+use Rattle.candidates.specs.Candidate.{northWest}
 use Rattle.ledger.specs.declared.Ledger.{Ledger}
+use Rattle.climb.specs.Climb.{Ended, allShort, reachedAt}
+use Rattle.measure.specs.declared.Target.{Target}
+use Rattle.measure.specs.Target.{reaches, shareOf, predicateSlackPersons, withinSlack}
 use Rattle.smallest.specs.declared.Ambiguity.{Ambiguity}
 use Rattle.smallest.specs.declared.Ambiguity.the-variants as ambiguity-case
 use Rattle.smallest.specs.declared.ShortBelow.{ShortBelow}
 use Rattle.smallest.specs.declared.ShortBelow.the-variants as short-case
 use Rattle.smallest.specs.declared.Smallest.{Smallest}
-use Rattle.smallest.specs.declared.Target.{Target}
-use Rattle.smallest.specs.Climb.{Ended, allShort, reachedAt}
-use Rattle.smallest.specs.Probes.{Probe, Run, targetPersons, reaches, smallestRun, evaluatedIn, reusedIn, statsOf}
+use Rattle.smallest.specs.Probes.{Probe, Run, targetPersons, smallestRun, evaluatedIn, reusedIn, statsOf}
 
 unfoldable pub target : Map → Float → Target
 target m share = record { share = share; persons = targetPersons m share; total = whole (total m) }
-
--- a population as a share of a total, 0 where there is nobody
-unfoldable pub shareOf : ℕ → ℕ → Float
-shareOf people all = let share = whole people ⊘ whole all in cond (eqb all 0) (whole 0) share
 
 -- the probe that fell short one kilometre below the answer, else absent
 unfoldable pub shortBelow : Float → ℕ → List Probe → ShortBelow
@@ -39,17 +33,6 @@ shortBelow persons km [] = short-case.Absent
 shortBelow persons km (p ∷ ps) =
     let rest = shortBelow persons km ps in
     cond (eqb (p .km + 1) km && not (reaches persons (p .centre))) (short-case.Witness (record { 0 = p .km }) (p .centre .population)) rest
-
--- rows × 4 × ulp + rows × EPSILON × total, left to right
-unfoldable pub predicateSlackPersons : Grid → Float → Float
-predicateSlackPersons g all =
-    let rows = whole (g .height) in
-    let ulp = nextUp all ⊖ all in
-    rows ⊗ whole 4 ⊗ ulp ⊕ rows ⊗ ε ⊗ all
-
--- | population − target | is at most the slack
-unfoldable pub withinSlack : Float → Float → Candidate → Bool
-withinSlack persons slack c = le (absolute (whole (c .population) ⊖ persons)) slack
 
 unfoldable pub widened : Ambiguity → ℕ → Ambiguity
 widened ambiguity-case.Absent km = ambiguity-case.Radii (record { 0 = km }) (record { 0 = km }) 1
@@ -62,11 +45,6 @@ ambiguity persons slack (p ∷ ps) =
     let rest = ambiguity persons slack ps in
     let wider = widened rest (p .km) in
     cond (withinSlack persons slack (p .centre)) wider rest
-
--- every cell is in the circle around a cell of the row
-unfoldable pub coversWholeGrid : Globe → ℕ → Row → Bool
-coversWholeGrid s km row =
-    allBelow (s .grid .height) (λ r. allBelow (s .grid .width) (λ k. inCircle s (whole km) (record { row = row; col = record { 0 = 0 } }) (cell r k)))
 
 -- the answer at a radius, from the probes
 unfoldable pub smallestAt : Map → Float → List Probe → ℕ → Candidate → Bool → Smallest
@@ -96,7 +74,7 @@ unfoldable pub concluded : Map → Float → Ended Run Candidate → Settled
 concluded m share (allShort r) =
     record { answer = smallestAt m share (r .trace) (ceiling (m .globe .grid)) (northWest (total m)) true; ledger = r .ledger }
 concluded m share (reachedAt r km c) =
-    record { answer = smallestAt m share (r .trace) km c (coversWholeGrid (m .globe) km (c .row)); ledger = r .ledger }
+    record { answer = smallestAt m share (r .trace) km c (coversWholeGrid (m .globe) (whole km) (c .row)); ledger = r .ledger }
 
 -- the smallest radius of an accepted map, share, spacing and ledger
 unfoldable pub smallest : Map → Spacing → Float → Ledger → Settled
@@ -104,5 +82,5 @@ smallest m spacing share l = concluded m share (smallestRun m spacing share l)
 
 -- opens all of the above, for facts that are computed
 unfoldable pub smallests : Unit {0}
-unfolding target shareOf shortBelow predicateSlackPersons withinSlack widened ambiguity coversWholeGrid smallestAt concluded smallest
+unfolding target shortBelow widened ambiguity smallestAt concluded smallest
 smallests = tt

@@ -3,38 +3,35 @@ use Prim.Native.Nat.{ℕ, _+_, _*_, _^_, _≤_}
 use mathlib.Core.Path.{_≡_}
 use mathlib.Core.Bool.{Bool, true, false, cond}
 use lib.Ieee.{Float}
-use Rattle.floats.specs.Binary.{whole, _⊗_}
+use Rattle.floats.specs.Binary.{whole}
 use Rattle.grid.specs.declared.Grid.{Grid}
-use Rattle.grid.specs.Grid.{onGrid}
 use Rattle.grid.specs.Map.{Globe, Map}
 use Rattle.table.specs.Table.{total}
-use Rattle.blocks.specs.declared.Spacing.{Spacing}
-use Rattle.search.specs.declared.Candidate.{Candidate}
-use Rattle.search.specs.declared.SearchStats.{SearchStats}
-use Rattle.search.specs.Candidate.{centreOf, northWest}
-use Rattle.search.specs.Level.{noStats, plusStats}
+use Rattle.kernel.specs.Circle.{coversWholeGrid}
+use Rattle.bounds.specs.declared.Spacing.{Spacing}
+use Rattle.candidates.specs.declared.Candidate.{Candidate}
+use Rattle.levels.specs.declared.SearchStats.{SearchStats}
+use Rattle.candidates.specs.Candidate.{northWest}
+use Rattle.levels.specs.Level.{noStats, plusStats}
 use Rattle.search.specs.Search.{search}
-use Rattle.search.specs.Weight.{statsWeight}
+use Rattle.levels.specs.Weight.{statsWeight}
 use Rattle.ledger.specs.declared.Got.{Got}
 use Rattle.ledger.specs.declared.Got.the-variants.{Circle, Nothing}
 use Rattle.ledger.specs.declared.Ledger.{Ledger}
 use Rattle.ledger.specs.Ledger.{capacity, entry, get, put, ledgerInOrder}
+use Rattle.ledger.specs.Places.{InBounds}
+use Rattle.climb.specs.declared.Bracket.{Bracket}
+use Rattle.measure.specs.declared.Target.{Target}
+use Rattle.measure.specs.Target.{reaches, shareOf, predicateSlackPersons, withinSlack}
 use Rattle.smallest.specs.declared.Ambiguity.{Ambiguity}
 use Rattle.smallest.specs.declared.Ambiguity.the-variants as ambiguity-case
-use Rattle.smallest.specs.declared.Bracket.{Bracket}
 use Rattle.smallest.specs.declared.RunState.{RunState}
 use Rattle.smallest.specs.declared.ShortBelow.{ShortBelow}
 use Rattle.smallest.specs.declared.ShortBelow.the-variants as short-case
 use Rattle.smallest.specs.declared.Smallest.{Smallest}
 use Rattle.smallest.specs.declared.SmallestStats.{SmallestStats}
-use Rattle.smallest.specs.declared.Target.{Target}
-use Rattle.smallest.specs.Probes.{reaches}
-use Rattle.smallest.specs.Smallest.{Settled, target, shareOf, predicateSlackPersons, withinSlack, widened, coversWholeGrid}
+use Rattle.smallest.specs.Smallest.{Settled, target, widened}
 use Rattle.smallest.specs.Call.{mostRadii}
-
--- the target of a share of so many people
-abbrev pub targetOf : Float → ℕ → Target
-targetOf share people = record { share = share; persons = share ⊗ whole people; total = whole people }
 
 -- ---- the state before and after a probe
 
@@ -101,11 +98,6 @@ radiiOf (ambiguity-case.Radii low high n) = n
 abbrev pub searchWeight : ℕ
 searchWeight = 2 ^ 25
 
--- a centre on the grid, whose people a binary64 counts exactly
-pub record InBounds (g : Grid) (c : Candidate) : Type 0 where
-  pub on : onGrid g (centreOf c) ≡ true
-  pub exact : c .population ≤ 2 ^ 53
-
 -- what every probe keeps
 pub record InOrder (g : Grid) (s : RunState) : Type 0 where
   pub ledger : ledgerInOrder g (s .ledger) ≡ true
@@ -119,7 +111,7 @@ pub record InOrder (g : Grid) (s : RunState) : Type 0 where
 -- the answer of a run that has ended
 unfoldable pub answerBy : Globe → Target → Float → ℕ → Bracket → RunState → Smallest
 answerBy globe t slack people c s =
-    let covers = coversWholeGrid globe (c .low) (s .found .row) in
+    let covers = coversWholeGrid globe (whole (c .low)) (s .found .row) in
     record {
       «radius_km» = record { 0 = c .low };
       centre = s .found;

@@ -1,21 +1,23 @@
 // The smallest-radius call: it puts its questions, fills the sums, runs, and answers from where the run has ended.
-use crate::Bracket;
 use crate::RunState;
 use crate::Smallest;
 use crate::SmallestAnswer;
 use crate::SmallestResult;
-use crate::Target;
-use blocks::Spacing;
+use bounds::Spacing;
+use climb::Bracket;
 use grid::Grid;
 use grid::RadiusKm;
 use grid::Row;
 use ledger::Ledger;
+use measure::Target;
 ghost use mathlib.Core.Path.{_≡_};
 ghost use mathlib.Core.Bool.{true, cond};
 ghost use Rattle.grid.specs.Answer.{firstNo, shown};
+ghost use Rattle.floats.specs.Binary.{whole};
+ghost use Rattle.kernel.specs.Circle.{coversWholeGrid};
 ghost use Rattle.kernel.specs.Kernel.{sheetOf, OnSheet};
-ghost use Rattle.search.specs.Work.{mapOf};
-ghost use Rattle.smallest.specs.Smallest.{coversWholeGrid, smallest};
+ghost use Rattle.levels.specs.Work.{mapOf};
+ghost use Rattle.smallest.specs.Smallest.{smallest};
 ghost use Rattle.smallest.specs.Call.{smallestQuestions, smallestAnswer, smallestCall};
 ghost use Rattle.smallest.specs.State.{answerBy};
 ghost use Rattle.smallest.specs.Probing.{CanConclude, CanSettle, IsSettled, ownQuestions};
@@ -26,10 +28,11 @@ const MOST_RADII: usize = 28;
 // At the ceiling, where all radii fell short, every circle is the whole grid.
 fn covers(grid: Grid, angles: &[f64], bracket: Bracket, row: Row) -> bool
     requires { ⌜ OnSheet grid (now angles) row ⌝ }
-    ensures { λ r. ⌜ r ≡ cond (bracket .reached) (coversWholeGrid (sheetOf grid (now (angles .entry))) (bracket .low) row) true ⌝ }
+    ensures { λ r. ⌜ r ≡ cond (bracket .reached) (coversWholeGrid (sheetOf grid (now (angles .entry))) (whole (bracket .low)) row) true ⌝ }
 {
     if bracket.reached {
-        return crate::covers_whole_grid(grid, angles, bracket.low, row);
+        let kernel = kernel::build(grid, angles, row, bracket.low as f64);
+        return kernel::covers(grid, kernel);
     }
     true
 }
@@ -51,7 +54,7 @@ fn conclude(
     let ambiguity = state.ambiguity;
     let stats = state.stats;
     let whole_grid = covers(grid, angles, bracket, centre.row);
-    let share = crate::share_of(centre.population, people);
+    let share = measure::share_of(centre.population, people);
     Smallest {
         radius_km: RadiusKm(bracket.low),
         centre,
@@ -82,8 +85,8 @@ fn settle(
     ensures { λ r. ⌜ IsSettled (smallest (mapOf grid (now (angles .entry)) (now (cosines .entry)) (now (sums .entry))) spacing share ledger) r ⌝ }
 {
     let people = table::total(grid, sums);
-    let target = crate::target_of(share, people);
-    let slack = crate::predicate_slack_persons(grid, target.total);
+    let target = measure::target_of(share, people);
+    let slack = measure::predicate_slack_persons(grid, target.total);
     let end = crate::run::run(
         grid,
         angles,
@@ -111,10 +114,10 @@ fn settle(
 fn own_refusal(grid: Grid, share: f64, spacing: Spacing, ledger: Ledger) -> u32
     ensures { λ r. ⌜ r ≡ firstNo (ownQuestions grid spacing share ledger) ⌝ }
 {
-    if !crate::share_in_range(share) {
+    if !measure::share_in_range(share) {
         return 9;
     }
-    if !blocks::spacing_given(spacing) {
+    if !bounds::spacing_given(spacing) {
         return 10;
     }
     if !ledger::ledger_in_order(grid, ledger) {

@@ -1,32 +1,17 @@
 // The smallest radius whose fullest circle reaches a share of the people, and what the call answers.
 
 mod call;
-mod cover;
-mod measure;
-mod next;
 mod probe;
 mod run;
 mod state;
 
 pub use call::smallest_radius;
-pub use cover::covers_whole_grid;
+use candidates::Candidate;
+use climb::Bracket;
 use grid::RadiusKm;
 use ledger::Ledger;
-pub use measure::predicate_slack_persons;
-pub use measure::reaches;
-pub use measure::share_in_range;
-pub use measure::share_of;
-pub use measure::target_of;
-pub use measure::within_slack;
-use search::Candidate;
-use search::SearchStats;
-
-// A share of the people, and the persons it comes to.
-pub struct Target {
-    pub share: f64,
-    pub persons: f64,
-    pub total: f64,
-}
+use levels::SearchStats;
+use measure::Target;
 
 // The probe that fell short one kilometre below the answer.
 pub enum ShortBelow {
@@ -72,14 +57,6 @@ pub enum SmallestAnswer {
 pub struct SmallestResult {
     pub answer: SmallestAnswer,
     pub ledger: Ledger,
-}
-
-// The climb and the bisection: every kilometre below low fell short. While none has reached, high is the next one to probe; afterwards it
-// is the lowest that has.
-pub struct Bracket {
-    pub low: u32,
-    pub high: u32,
-    pub reached: bool,
 }
 
 // A run after some probes: the ledger, whether the latest probe reached, what the lowest that reached found, the latest that fell short,

@@ -1,14 +1,14 @@
 // A probe: the ledger's entry of the kilometre, or else a search, which is put.
 use crate::RunState;
-use blocks::Spacing;
+use bounds::Spacing;
+use candidates::Candidate;
 use grid::Grid;
 use grid::RadiusKm;
 use ledger::Entry;
 use ledger::Got;
-use search::Candidate;
 use search::MostPopulous;
 ghost use mathlib.Core.Path.{_≡_};
-ghost use Rattle.search.specs.Work.{mapOf};
+ghost use Rattle.levels.specs.Work.{mapOf};
 ghost use Rattle.ledger.specs.Ledger.{entry, put};
 ghost use Rattle.smallest.specs.State.{reusedMore, evaluatedMore, noted, stateAfter};
 ghost use Rattle.smallest.specs.Probing.{CanNote, CanEvaluate, CanProbe};

@@ -1,13 +1,13 @@
 // The run: probes from the first radius until the bracket is closed.
-use crate::Bracket;
 use crate::RunEnd;
-use crate::Target;
-use blocks::Spacing;
+use bounds::Spacing;
+use climb::Bracket;
 use grid::Grid;
 use grid::RadiusKm;
 use ledger::Ledger;
+use measure::Target;
 ghost use mathlib.Core.Path.{_≡_};
-ghost use Rattle.search.specs.Work.{mapOf};
+ghost use Rattle.levels.specs.Work.{mapOf};
 ghost use Rattle.smallest.specs.Probing.{CanRun, Ran};
 
 pub(crate) fn run(

@@ -3,17 +3,17 @@ use crate::Ambiguity;
 use crate::RunState;
 use crate::ShortBelow;
 use crate::SmallestStats;
+use candidates::Candidate;
 use grid::Col;
 use grid::RadiusKm;
 use grid::Row;
 use ledger::Ledger;
-use search::Candidate;
-use search::SearchStats;
+use levels::SearchStats;
 ghost use mathlib.Core.Path.{_≡_};
 ghost use mathlib.Core.Bool.{cond};
 ghost use Prim.Native.Nat.{_+_, _≤_, _<_, _^_, min};
 ghost use Rattle.lists.specs.Counted.{max};
-ghost use Rattle.search.specs.Weight.{statsWeight};
+ghost use Rattle.levels.specs.Weight.{statsWeight};
 ghost use Rattle.smallest.specs.Smallest.{widened};
 ghost use Rattle.smallest.specs.State.{begun, reusedMore, evaluatedMore, shortAfter, ambiguityAfter, noted, radiiOf};
 
@@ -106,7 +106,7 @@ pub(crate) fn evaluated_more(stats: SmallestStats, search: SearchStats) -> Small
     ensures { λ r. ⌜ r ≡ evaluatedMore stats search ⌝ }
 {
     let before = stats.searched;
-    let searched = search::plus_stats(before, search);
+    let searched = levels::plus_stats(before, search);
     SmallestStats {
         radii_evaluated: stats.radii_evaluated + 1,
         radii_reused: stats.radii_reused,
@@ -162,10 +162,10 @@ pub(crate) fn noted(
     let old_found = state.found;
     let old_short = state.short;
     let old_ambiguity = state.ambiguity;
-    let reached = crate::reaches(persons, centre);
+    let reached = measure::reaches(persons, centre);
     let found = found_after(reached, centre, old_found);
     let short = short_after(reached, old_short, km, centre.population);
-    let within = crate::within_slack(persons, slack, centre);
+    let within = measure::within_slack(persons, slack, centre);
     let ambiguity = ambiguity_after(within, old_ambiguity, km);
     RunState {
         ledger,

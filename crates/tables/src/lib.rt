@@ -2,7 +2,9 @@
 ghost use mathlib.Core.Path.{_≡_};
 ghost use Rattle.table.specs.Table.{total, bandPopulation};
 ghost use Rattle.table.specs.Summed.{tableMap, Summed, OnTable};
+use grid::Col;
 use grid::Grid;
+use grid::Row;
 use table::ColSpan;
 use table::RowBand;
 
@@ -26,19 +28,22 @@ pub fn population<'a>(table: Table<'a>, band: RowBand, span: ColSpan) -> u64
     table::population(table.grid, table.sums, band, span)
 }
 
-// The people of the whole extent.
+// The people of the whole extent: the last corner.
 pub fn whole<'a>(table: Table<'a>) -> u64
     requires { ⌜ Summed (table .grid) (now (table .sums)) ⌝ }
     ensures { λ r. ⌜ r ≡ total (tableMap (table .entry .grid) (now (table .entry .sums))) ⌝ }
 {
-    table::total(table.grid, table.sums)
+    let grid = table.grid;
+    table::corner(grid, table.sums, grid.height, grid.width)
 }
 
 // From plain parameters to a table and through it: whoever calls this one needs no walk by hand.
-pub fn population_at(grid: Grid, sums: &[u64], band: RowBand, span: ColSpan) -> u64
+pub fn population_at(grid: Grid, sums: &[u64], north: Row, south: Row, west: Col, east: Col) -> u64
     requires { ⌜ Summed grid (now sums) ⌝ }
-    requires { ⌜ OnTable grid band span ⌝ }
-    ensures { λ r. ⌜ r ≡ bandPopulation (tableMap grid (now (sums .entry))) band span ⌝ }
+    requires { ⌜ OnTable grid (record { north = north; south = south }) (record { west = west; east = east }) ⌝ }
+    ensures { λ r. ⌜ r ≡ bandPopulation (tableMap grid (now (sums .entry))) (record { north = north; south = south }) (record { west = west; east = east }) ⌝ }
 {
+    let band = RowBand { north, south };
+    let span = ColSpan { west, east };
     population(table_of(grid, sums), band, span)
 }

@@ -10,10 +10,14 @@ returns : tie.Need-returns
 returns c = rw (absolute-is (c .before .args .x) (of-true _ (c .before .good .0 .1)), c .if1 .taken)
 
 returns-2 : tie.Need-returns-2
-returns-2 c = rw (absolute-is (c .before .before .args .x) (of-true _ (c .before .before .good .0 .1)), c .before .if1 .left, c .if2 .taken)
+returns-2 c =
+    let start = c .before .before in
+    rw (absolute-is (start .args .x) (of-true _ (start .good .0 .1)), c .before .if1 .left, c .if2 .taken)
 
 returns-3 : tie.Need-returns-3
-returns-3 c = rw (absolute-is (c .before .before .args .x) (of-true _ (c .before .before .good .0 .1)), c .before .if1 .left, c .if2 .left)
+returns-3 c =
+    let start = c .before .before in
+    rw (absolute-is (start .args .x) (of-true _ (start .good .0 .1)), c .before .if1 .left, c .if2 .left)
 
 pub abs-spec : {M : Type 1} → statement M
 abs-spec = tie.close (tie.spec returns returns-2 returns-3)

@@ -16,7 +16,9 @@ float-to-bits-b : tie.Need-float-to-bits-b
 float-to-bits-b c = no-nan-of (c .before .args .x) (c .if1 .left)
 
 returns-2 : tie.Need-returns-2
-returns-2 c = sym (next-infinite (c .before .before .args .x) (of-true _ (c .before .before .good .0 .1)) (c .if2 .taken))
+returns-2 c =
+    let start = c .before .before in
+    sym (next-infinite (start .args .x) (of-true _ (start .good .0 .1)) (c .if2 .taken))
 
 float-from-bits-result : tie.Need-float-from-bits-result
 unfolding nanBits
@@ -31,14 +33,16 @@ add-result c = search needs
 float-from-bits-result-2 : tie.Need-float-from-bits-result-2
 float-from-bits-result-2 c =
     let start = c .before .before .before .before in
-    above-no-nan (start .args .x) (of-true _ (start .good .0 .1)) (no-nan-of (start .args .x) (c .before .before .before .if1 .left)) (c .before .before .if2 .left)
+    above-no-nan (start .args .x) (of-true _ (start .good .0 .1)) (no-nan-of (start .args .x) (c .before .before .before .if1 .left))
+    (c .before .before .if2 .left)
     (c .if4 .taken)
 
 returns-4 : tie.Need-returns-4
 returns-4 c =
     let start = c .before .before .before .before in
     sym
-    (next-above (start .args .x) (of-true _ (start .good .0 .1)) (no-nan-of (start .args .x) (c .before .before .before .if1 .left)) (c .before .before .if2 .left)
+    (next-above (start .args .x) (of-true _ (start .good .0 .1)) (no-nan-of (start .args .x) (c .before .before .before .if1 .left))
+    (c .before .before .if2 .left)
     (c .before .if3 .left) (c .if4 .taken))
 
 sub-result : tie.Need-sub-result
@@ -47,13 +51,15 @@ sub-result c = search needs
 float-from-bits-result-3 : tie.Need-float-from-bits-result-3
 float-from-bits-result-3 c =
     let start = c .before .before .before .before in
-    below-no-nan (start .args .x) (of-true _ (start .good .0 .1)) (no-nan-of (start .args .x) (c .before .before .before .if1 .left)) (c .before .if3 .left) (c .if4 .left)
+    below-no-nan (start .args .x) (of-true _ (start .good .0 .1)) (no-nan-of (start .args .x) (c .before .before .before .if1 .left))
+    (c .before .if3 .left) (c .if4 .left)
 
 returns-5 : tie.Need-returns-5
 returns-5 c =
     let start = c .before .before .before .before in
     sym
-    (next-below (start .args .x) (of-true _ (start .good .0 .1)) (no-nan-of (start .args .x) (c .before .before .before .if1 .left)) (c .before .if3 .left) (c .if4 .left))
+    (next-below (start .args .x) (of-true _ (start .good .0 .1)) (no-nan-of (start .args .x) (c .before .before .before .if1 .left))
+    (c .before .if3 .left) (c .if4 .left))
 
 pub next-up-spec : {M : Type 1} → statement M
 next-up-spec =

@@ -13,7 +13,9 @@ played-requires : tie.Need-played-requires
 played-requires c κs = search needs
 
 same-length : tie.Need-same-length
-same-length c = c .before .before .before .before .before .before .before .before .before .before .before .before .before .before .noted .kept .1 .1 .0
+same-length c =
+    let noted = c .before .before .before .before .before .before .before .before .before .before .before .before .before .before .noted in
+    noted .kept .1 .1 .0
 
 same-length-2 : tie.Need-same-length-2
 same-length-2 c = search needs

@@ -29,13 +29,16 @@ mul-result-2 : tie.Need-mul-result-2
 mul-result-2 c = omega (arith, within (c .before), c .before .pre .0 .room)
 
 shared-slice-read-result : tie.Need-shared-slice-read-result
-shared-slice-read-result c = omega (arith, within (c .before .before), c .before .before .pre .0 .room)
+shared-slice-read-result c =
+    let then = c .before .before in
+    omega (arith, within then, then .pre .0 .room)
 
 returns : tie.Need-returns
 returns c =
     let s = c .before .before in
     let a = s .args in
-    corner-read (tableMap (a .grid) (now (a .sums))) (now (a .sums)) (now (a .sums)) (a .row) (a .col) (s .pre .0 .words) (s .pre .1 .row) (s .pre .1 .col)
+    corner-read (tableMap (a .grid) (now (a .sums))) (now (a .sums)) (now (a .sums)) (a .row) (a .col) (s .pre .0 .words) (s .pre .1 .row)
+    (s .pre .1 .col)
 
 pub corner-spec : {M : Type 1} → statement M
 corner-spec =

@@ -64,7 +64,8 @@ words c = rw (word-of (M (c .before))) (c .loop .inv .3)
 up : (c : tie.In-loop Inv-loop μ-loop) → getD (c .before .loop .sums) (R (c .before .before) * (W (c .before .before) + 1) + 1 + c .before .loop .col) 0 ≤ 16200 * (2 ^ 32 - 1)
 up c =
     let d = c .before .before in
-    rw (words (c .before), row-up (M d) _ (R d) (c .before .loop .col) (c .loop-test .taken)) (corner-small (M d) (small d) (R d) (c .before .loop .col + 1) (omega arith) (omega arith))
+    rw (words (c .before), row-up (M d) _ (R d) (c .before .loop .col) (c .loop-test .taken))
+    (corner-small (M d) (small d) (R d) (c .before .loop .col + 1) (omega arith) (omega arith))
 
 run : (c : tie.After-wide Inv-loop μ-loop) → c .before .before .before .loop .run + c .wide .result
     ≡ sumBelow (c .before .before .before .loop .col + 1) (λ k. getD (now (St (c .before .before .before .before) .args .counts)) (R (c .before .before .before .before) * W (c .before .before .before .before) + k) 0)
@@ -160,7 +161,8 @@ loop-again c =
       search needs,
       simp length-set (len at),
       run b,
-      rw (run b, ← word-of (M d)) (row-step (M d) _ (at .loop .sums) (R d) (at .loop .col) (b .before .before .loop-test .taken) (omega (arith, len at)) (words at)),
+      rw (run b, ← word-of (M d)) (row-step (M d) _ (at .loop .sums) (R d) (at .loop .col) (b .before .before .loop-test .taken)
+          (omega (arith, len at)) (words at)),
     )
 
 same-length : tie.Need-same-length Inv-loop μ-loop

@@ -98,7 +98,8 @@ loop-again c =
     let done = c .before .before .fill-row in (
       search needs,
       done .kept .1 .1 .1 .0 ∙ at .loop .inv .1,
-      rw (next-row (W d) (at .loop .row)) (over-more (sumsWord (M d)) (at .loop .row * (W d + 1) + (W d + 1)) (W d + 1) (S d) (at .loop .sums) _ (at .loop .inv .2) (done .ensures)),
+      rw (next-row (W d) (at .loop .row)) (over-more (sumsWord (M d)) (at .loop .row * (W d + 1) + (W d + 1)) (W d + 1) (S d) (at .loop .sums) _
+          (at .loop .inv .2) (done .ensures)),
     )
 
 same-length : tie.Need-same-length Inv-loop μ-loop
@@ -112,7 +113,8 @@ returns c =
     let h = St d .args .grid .height in
     let e : at .loop .row ≡ h = omega arith in
     rw (all-rows (W d) h)
-    (over-more (sumsWord (M d)) (W d + 1) (h * (W d + 1)) (now (St d .args .sums)) (S d) (at .loop .sums) (first d) (rw (e, add-comm (h * (W d + 1)) (W d + 1)) at (at .loop .inv .2)))
+    (over-more (sumsWord (M d)) (W d + 1) (h * (W d + 1)) (now (St d .args .sums)) (S d) (at .loop .sums) (first d)
+    (rw (e, add-comm (h * (W d + 1)) (W d + 1)) at (at .loop .inv .2)))
 
 pub fill-sums-spec : {M : Type 1} → statement M
 fill-sums-spec =

@@ -28,7 +28,8 @@ seam : (c : tie.After-strip3) → let s = c .before .before .before .before .bef
 seam c =
     let s = c .before .before .before .before .before .before .before .before in
     strips-seam (M s) (s .args .band) (s .args .span) (s .pre .1 .ordered) (s .pre .1 .south) _ _
-    (c .before .before .before .before .before .strip .ensures) (c .before .before .before .strip2 .ensures) (c .before .if1 .left) (s .pre .1 .west) _ (c .strip3 .ensures)
+    (c .before .before .before .before .before .strip .ensures) (c .before .before .before .strip2 .ensures) (c .before .if1 .left) (s .pre .1 .west)
+    _ (c .strip3 .ensures)
 
 add-south : tie.Need-add-south
 add-south c = search needs

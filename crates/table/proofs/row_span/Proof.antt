@@ -66,7 +66,8 @@ returns-2 c =
     let a = s .args in
     let m = tableMap (a .grid) (now (a .sums)) in
     c .population .ensures
-    ∙ ap₂ (λ (west east : Col). bandPopulation m (oneRow (a .row)) (record { west = west; east = east })) (b .before .west-of .ensures) (b .east-of .ensures)
+    ∙ ap₂ (λ (west east : Col). bandPopulation m (oneRow (a .row)) (record { west = west; east = east })) (b .before .west-of .ensures)
+    (b .east-of .ensures)
     ∙ sym (row-around m (a .row) (a .centre) (a .half) (s .pre .1 .row) (s .pre .1 .col) (short (b .before .before)))
 
 pub row-span-spec : {M : Type 1} → statement M

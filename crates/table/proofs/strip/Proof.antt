@@ -17,7 +17,12 @@ sub-result : tie.Need-sub-result
 sub-result c =
     let s = c .before .before .before in
     let a = s .args in
-    omega (arith, corner-grows-south (tableMap (a .grid) (now (a .sums))) (a .north) (a .south) (a .col) (s .pre .1 .0), c .before .corner .ensures, c .corner2 .ensures)
+    omega (
+      arith,
+      corner-grows-south (tableMap (a .grid) (now (a .sums))) (a .north) (a .south) (a .col) (s .pre .1 .0),
+      c .before .corner .ensures,
+      c .corner2 .ensures,
+    )
 
 returns : tie.Need-returns
 returns c = search needs

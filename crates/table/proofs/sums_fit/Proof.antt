@@ -31,7 +31,9 @@ cast-rows : tie.Need-cast-rows
 cast-rows c = search needs
 
 mul-rows : tie.Need-mul-rows
-mul-rows c = omega (arith, times-le (c .before .before .args .grid .height) (c .before .before .args .grid .width + 1) 4294967295 4294967296 (omega arith) (omega arith))
+mul-rows c =
+    let start = c .before .before in
+    omega (arith, times-le (start .args .grid .height) (start .args .grid .width + 1) 4294967295 4294967296 (omega arith) (omega arith))
 
 sub-result : tie.Need-sub-result
 sub-result c = search needs

@@ -12,9 +12,10 @@ use Rattle.table.proofs.population.Symbol as work-def
 use Rattle.table.proofs.population.Symbol.{name as #table·population}
 use Rattle.table.proofs.population.Met as work-thm
 use Rattle.tables.specs.declared.Table.{Table}
-use Rattle.tables.proofs.Walks.{_≡_, refl, ℕ, [], _∷_, URA, tyInt, w64, SProp, ent, id⊢, Lft, Share, Memory, Routine, Heap, Calls, Loops, WpFn, Tables, Atoms, Fun, givenOf, tables, tablesOf, FmC, fmOf, owns, mirs, Typed, now, typesAt, Contract, Triple, ensured, lasts, Meets, tripleOf, entered, cited}
-use Rattle.tables.proofs.Walks.{Given, raw, given, later, _$_, _∵_, !, qed, by, move, use1, learn, await, whole, sub, look-in, look, init, stop, fld, from, load, of-opd, and-then, no-more, assigns, land, returns, enter, alloc1, alloc0, params1, pass1, pass0, free0, calls-at}
-use Rattle.tables.proofs.Walks.{arg, gone, gridVal, sumsVal, tableVal, apart, Tok, handed, told, tableLaw, structLaw, met}
+use Rattle.walks.proofs.Walks.{_≡_, refl, ℕ, [], _∷_, URA, SProp, ent, id⊢, Lft, Share, Memory, Routine, Heap, Calls, Loops, WpFn, Tables, Atoms, Fun, givenOf, tables, tablesOf, FmC, fmOf, owns, mirs, Typed, now, typesAt, Contract, Triple, ensured, lasts, Meets, tripleOf, entered, cited}
+use Rattle.walks.proofs.Walks.{Given, raw, _$_, _∵_, !, qed, by, move, use1, look, init, and-then, no-more, returns, enter, alloc1, alloc0, params1, pass1, pass0, free0, calls-at}
+use Rattle.walks.proofs.Walks.{field, arg, takes, takes-as, gone, hands, told, structLaw, met}
+use Rattle.tables.proofs.Parts.{gridVal, sumsVal, tableVal, apart, Tok, tableLaw}
 use Rattle.tables.proofs.population.Key.{name as #tables·population}
 use Rattle.tables.proofs.population as self
 use Rattle.tables.proofs.population.Statement as stated
@@ -35,7 +36,7 @@ module _ {M : Type 1} (𝓤 : URA M) (H : Heap 𝓤) (A : Atoms 𝓤) (W : Given
     asks = (((κ, tt), (q, tt), tt, (t .grid, (t .sums, (b, (c, tt)))), (gridVal (t .grid) ∷ [], (sumsVal (t .sums) ∷ [], (B′.lowered b ∷ [], (C′.lowered c ∷ [], tt))))), tt)
 
     goes : ent 𝓤 (Self .pre asked) (Work .pre asks)
-    goes = apart 𝓤 H A W κ t (Tok 𝓤 H A W κ q) (self.clauses 𝓤 H A mem run (κ, tt) (t, (b, (c, tt))) .requires tt) (owns (B.the-row ∷ C.the-row ∷ []) (b, (c, tt)) (B′.lowered b ∷ [], (C′.lowered c ∷ [], tt)))
+    goes = apart 𝓤 H A W κ t (Tok 𝓤 A κ q) (self.clauses 𝓤 H A mem run (κ, tt) (t, (b, (c, tt))) .requires tt) (owns (B.the-row ∷ C.the-row ∷ []) (b, (c, tt)) (B′.lowered b ∷ [], (C′.lowered c ∷ [], tt)))
 
     says : (n : ℕ) → ent 𝓤 (ensured 𝓤 H A work.ended (work.clauses 𝓤 H A mem run) (κ, tt) (asks .0 .3) tt n) (ensured 𝓤 H A self.ended (self.clauses 𝓤 H A mem run) (κ, tt) (asked .0 .3) tt n)
     says n =
@@ -47,13 +48,11 @@ module _ {M : Type 1} (𝓤 : URA M) (H : Heap 𝓤) (A : Atoms 𝓤) (W : Given
       walk typed =
           qed W (raw (Self .pre asked) ∷ []) ∵ enter ! K Λ code.function (Self .args asked) _ $
           alloc1 ! (λ l₀. alloc1 ! (λ l₁. alloc1 ! (λ l₂. alloc1 ! (λ l₃. alloc1 ! (λ l₄. alloc1 ! (λ l₅. alloc0 ! $ params1 ! $ pass1 ! (init ! 8 refl (typed .0)) $ pass1 ! (init ! 6 refl (typed .1 .0)) $ pass1 ! (init ! 4 refl (typed .1 .1 .0)) $ pass0 ! $
-          -- [_5; …; _4; …; _3; …; _2; …; _1; …; room for _0; …; what there is at entry]
-          assigns ! (of-opd ! (load ! (from ! (fld ! refl (stop !))) (look-in ! 8 (sub ! 0 refl (whole !))))) (from ! (stop !)) (init ! 2 refl (tt, typed .0 .1 .0)) $
-          assigns ! (of-opd ! (load ! (from ! (fld ! refl (stop !))) (look-in ! 8 (sub ! 1 refl (whole !))))) (from ! (stop !)) (init ! 0 refl (tt, typed .0 .1 .1 .0)) $
+          -- [the locals; what there is at entry]
+          takes ! 0 (field ! 0 refl refl refl) refl $ takes-as ! 0 (field ! 0 refl refl refl) (λ wt. wt) refl $
           move ! (12 ∷ []) $ use1 W (raw (Work .pre asks)) goes $
-          calls-at ! fm Work known asks (and-then ! (arg ! 3 refl) (and-then ! (arg ! 1 refl) (and-then ! (arg ! 7 refl) (and-then ! (arg ! 5 refl) (no-more !))))) (λ v.
-          use1 W (later (given (Typed (tyInt w64 ∷ []) (v ∷ [])) (raw (Self .post asked v)))) (handed 𝓤 H A W κ q _ _ says v) $ await ! tt $ learn ! (λ is. land ! (from ! (stop !)) (init ! 11 refl (is .0)) $
-          returns ! (look ! 11 refl) $ gone ! 11 refl refl $ gone ! 9 refl refl $ gone ! 7 refl refl $ gone ! 5 refl refl $ gone ! 3 refl refl $ gone ! 1 refl refl $ free0 ! $ by ! (id⊢ 𝓤 _)))))))))
+          calls-at ! fm Work known asks (and-then ! (arg ! 1 refl) (and-then ! (arg ! 1 refl) (and-then ! (arg ! 1 refl) (and-then ! (arg ! 1 refl) (no-more !))))) (λ v.
+          hands ! 0 (Tok 𝓤 A κ q) _ _ says refl refl $ returns ! (look ! 11 refl) $ gone ! 1 refl refl $ gone ! 1 refl refl $ gone ! 1 refl refl $ gone ! 1 refl refl $ gone ! 1 refl refl $ gone ! 1 refl refl $ free0 ! $ by ! (id⊢ 𝓤 _))))))))
 
   meets : (𝓣 : Tables 𝓤 H) → Triple 𝓤 (𝓣 .C #table·population) Work → Meets 𝓤 H A self.signature (WpFn 𝓤 H (𝓣 .C) (𝓣 .Λ) code.function) (self.spec 𝓤 H A mem run)
   meets 𝓣 known =

@@ -2,9 +2,10 @@
 use Rattle.grid.specs.declared.Grid.{Grid}
 use Rattle.grid.proofs.Grid as G
 use Rattle.tables.specs.declared.Table.{Table}
-use Rattle.tables.proofs.Walks.{_≡_, refl, ℕ, [], _∷_, List, URA, SProp, ent, Lft, Share, Memory, Routine, Heap, Calls, Loops, WpFn, Tables, Atoms, Fun, fact, factI, givenOf, tables, tablesOf, owns, mirs, Typed, RefT, typesAt, Contract, ensured, lasts, Meets, tripleOf, entered}
-use Rattle.tables.proofs.Walks.{Given, ‵, raw, _⊛_, _$_, _∵_, !, qed, by, move, use1, split, join, frame, suffices, agg, look, init, stop, from, and-then, no-more, assigns, returns, enter, alloc1, alloc0, params1, pass1, pass0, free0}
-use Rattle.tables.proofs.Walks.{arg, gone, gridVal, sumsVal, tableVal, TableT, SumsT, joined, Tok, left, beside, gridLaw, sumsLaw, met}
+use Rattle.walks.proofs.Walks.{_≡_, refl, ℕ, [], _∷_, List, URA, SProp, ent, Lft, Share, Memory, Routine, Heap, Calls, Loops, WpFn, Tables, Atoms, Fun, fact, factI, givenOf, tables, tablesOf, owns, mirs, Typed, RefT, typesAt, Contract, ensured, lasts, Meets, tripleOf, entered}
+use Rattle.walks.proofs.Walks.{Given, ‵, raw, _⊛_, _$_, _∵_, !, qed, by, move, use1, split, join, frame, suffices, look, init, returns, enter, alloc1, alloc0, params1, pass1, pass0, free0}
+use Rattle.walks.proofs.Walks.{local, packs, gone, left, beside, met}
+use Rattle.tables.proofs.Parts.{gridVal, sumsVal, tableVal, TableT, SumsT, joined, Tok, gridLaw, sumsLaw}
 use Rattle.tables.proofs.table_of.Key.{name as #tables·table-of}
 use Rattle.tables.proofs.table_of as self
 use Rattle.tables.proofs.table_of.Statement as stated
@@ -26,17 +27,16 @@ module _ {M : Type 1} (𝓤 : URA M) (H : Heap 𝓤) (A : Atoms 𝓤) (W : Given
 
     exits : ent 𝓤 (Self .pre asked) (Self .post asked (tableVal made))
     exits =
-        qed W ((raw (Tok 𝓤 H A W κ q) ⊛ ‵ (owns (G.the-row ∷ SumsT κ ∷ []) (g, (s, tt)) (asked .0 .4))) ∷ raw (self.clauses 𝓤 H A mem run (κ, tt) (g, (s, tt)) .requires tt) ∷ []) ∵
-        suffices ! _ (left 𝓤 H A W κ q (TableT κ) (λ (t : Table). ensured 𝓤 H A self.ended (self.clauses 𝓤 H A mem run) (κ, tt) (g, (s, tt)) tt t) (tableVal made) made) $
+        qed W ((raw (Tok 𝓤 A κ q) ⊛ ‵ (owns (G.the-row ∷ SumsT κ ∷ []) (g, (s, tt)) (asked .0 .4))) ∷ raw (self.clauses 𝓤 H A mem run (κ, tt) (g, (s, tt)) .requires tt) ∷ []) ∵
+        suffices ! _ (left 𝓤 H A W (Tok 𝓤 A κ q) (TableT κ) (λ (t : Table). ensured 𝓤 H A self.ended (self.clauses 𝓤 H A mem run) (κ, tt) (g, (s, tt)) tt t) (tableVal made) made) $
         split ! $ move ! (1 ∷ []) $ use1 W (‵ (TableT κ .own made (tableVal made ∷ []))) (joined 𝓤 H A W κ made) $ move ! (1 ∷ 0 ∷ []) $ join ! $ frame ! $ use1 W (raw (fact 𝓤 (made ≡ made))) (factI 𝓤 (made ≡ made) _ refl) $ by ! says
 
     walk : (K : Calls 𝓤 H) (Λ : Loops 𝓤 H) → Typed (mirs (typesAt (self.signature .params) (κ, tt))) (Self .args asked) → ent 𝓤 (Self .pre asked) (WpFn 𝓤 H K Λ code.function (Self .args asked) (Self .post asked))
     walk K Λ typed =
         qed W (raw (Self .pre asked) ∷ []) ∵ enter ! K Λ code.function (Self .args asked) _ $
         alloc1 ! (λ l₀. alloc1 ! (λ l₁. alloc1 ! (λ l₂. alloc0 ! $ params1 ! $ pass1 ! (init ! 2 refl (typed .0)) $ pass1 ! (init ! 0 refl (typed .1 .0)) $ pass0 ! $
-        -- [_2; …; _1; …; room for _0; …; what there is at entry]
-        assigns ! (agg ! (and-then ! (arg ! 2 refl) (and-then ! (arg ! 0 refl) (no-more !)))) (from ! (stop !)) (init ! 4 refl (tt, (typed .0 .1, (typed .1 .0 .1, tt)))) $
-        returns ! (look ! 4 refl) $ gone ! 4 refl refl $ gone ! 2 refl refl $ gone ! 0 refl refl $ free0 ! $ by ! exits)))
+        -- [the locals; what there is at entry]
+        packs ! 0 (local ! 0 refl) (local ! 0 refl) refl refl $ returns ! (look ! 4 refl) $ gone ! 0 refl refl $ gone ! 0 refl refl $ gone ! 0 refl refl $ free0 ! $ by ! exits)))
 
   meets : (𝓣 : Tables 𝓤 H) → Meets 𝓤 H A self.signature (WpFn 𝓤 H (𝓣 .C) (𝓣 .Λ) code.function) (self.spec 𝓤 H A mem run)
   meets 𝓣 =

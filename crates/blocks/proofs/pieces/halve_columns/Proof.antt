@@ -75,10 +75,11 @@ same-length-2 c = search needs
 
 returns-2 : tie.Need-returns-2
 returns-2 c =
+    let middle = c .before .before .middle in
     let s = c .before .before .before .before .before .before .before .before .before .before .before in
     let a = s .args in
-    halve-two (a .block) (now (a .words)) (a .at) (s .pre) (c .before .before .middle .result) (c .before .to-word2 .result) (c .to-word3 .result)
-    (c .before .before .before .if1 .left) (c .before .before .middle .ensures) (c .before .to-word2 .ensures) (c .to-word3 .ensures)
+    halve-two (a .block) (now (a .words)) (a .at) (s .pre) (middle .result) (c .before .to-word2 .result) (c .to-word3 .result)
+    (c .before .before .before .if1 .left) (middle .ensures) (c .before .to-word2 .ensures) (c .to-word3 .ensures)
 
 pub halve-columns-spec : {M : Type 1} → statement M
 halve-columns-spec =

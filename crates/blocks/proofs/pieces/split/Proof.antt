@@ -56,31 +56,39 @@ halve-columns-requires-2 c κs =
 
 halve-columns-requires-3 : tie.Need-halve-columns-requires-3
 halve-columns-requires-3 c κs =
+    let middle = c .before .before .before .before .before .middle in
+    let halve-columns2 = c .before .before .before .halve-columns2 in
     let s = c .before .before .before .before .before .before .before .before .before .before .before .before .before .before .before .before in
     let a = s .args in
     let e = sym (c .before .before .before .before .before .before .before .before .before .before .before .before .before .before .is-cell .ensures)
     ∙ c .before .before .before .before .before .before .before .before .before .before .before .before .before .if1 .left in
-    lower-fits (a .block) (now (a .words)) (a .at) (s .pre) (c .before .before .before .before .before .middle .result) e
-    (c .before .before .before .before .before .before .if2 .left) (c .before .before .before .before .before .middle .ensures)
-    (c .before .before .before .halve-columns2 .last .1 .0) (c .before .before .before .halve-columns2 .result)
-    (c .before .before .before .halve-columns2 .kept .1 .0) (c .before .before .before .halve-columns2 .ensures)
+    lower-fits (a .block) (now (a .words)) (a .at) (s .pre) (middle .result) e
+    (c .before .before .before .before .before .before .if2 .left) (middle .ensures)
+    (halve-columns2 .last .1 .0) (halve-columns2 .result)
+    (halve-columns2 .kept .1 .0) (halve-columns2 .ensures)
 
 same-length-2 : tie.Need-same-length-2
 same-length-2 c = search needs
 
 returns-3 : tie.Need-returns-3
 returns-3 c =
+    let is-cell = c .before .before .before .before .before .before .before .before .before .before .before .before .before .before .before .before .before .is-cell in
+    let if1 = c .before .before .before .before .before .before .before .before .before .before .before .before .before .before .before .before .if1 in
+    let if2 = c .before .before .before .before .before .before .before .before .before .if2 in
+    let middle = c .before .before .before .before .before .before .before .before .middle in
+    let halve-columns2 = c .before .before .before .before .before .before .halve-columns2 in
+    let halve-columns3 = c .before .before .halve-columns3 in
     let s = c .before .before .before .before .before .before .before .before .before .before .before .before .before .before .before .before .before .before .before in
     let a = s .args in
     let e = sym
-    (c .before .before .before .before .before .before .before .before .before .before .before .before .before .before .before .before .before .is-cell .ensures)
-    ∙ c .before .before .before .before .before .before .before .before .before .before .before .before .before .before .before .before .if1 .left in
-    both-written (a .block) (now (a .words)) (a .at) (s .pre) (c .before .before .before .before .before .before .before .before .middle .result) e
-    (c .before .before .before .before .before .before .before .before .before .if2 .left)
-    (c .before .before .before .before .before .before .before .before .middle .ensures)
-    (c .before .before .before .before .before .before .halve-columns2 .last .1 .0) (c .before .before .halve-columns3 .last .1 .0)
-    (c .before .before .before .before .before .before .halve-columns2 .result) (c .before .before .halve-columns3 .result)
-    (c .before .before .before .before .before .before .halve-columns2 .ensures) (c .before .before .halve-columns3 .ensures)
+    (is-cell .ensures)
+    ∙ if1 .left in
+    both-written (a .block) (now (a .words)) (a .at) (s .pre) (middle .result) e
+    (if2 .left)
+    (middle .ensures)
+    (halve-columns2 .last .1 .0) (halve-columns3 .last .1 .0)
+    (halve-columns2 .result) (halve-columns3 .result)
+    (halve-columns2 .ensures) (halve-columns3 .ensures)
 
 pub split-spec : {M : Type 1} → statement M
 split-spec =

@@ -5,10 +5,10 @@ use native.Mathlib.Omega.{arith}
 use denote.Ref.{now}
 use borrow.Author.Needs.{needs}
 use Rattle.lists.proofs.Folds.{length-each}
+use Rattle.lists.proofs.Writes.{Writing}
 use Rattle.blocks.specs.Word.{wordOf}
 use Rattle.blocks.specs.Block.{tile}
 use Rattle.blocks.proofs.TileWords.{tilesLeft, tilesWhole, tiles-start, tiles-room, tiles-step, tiles-done, tiles-of}
-use Rattle.blocks.proofs.Writes.{Writing}
 use Rattle.blocks.proofs.pieces.tile.Statement.{statement}
 use Rattle.blocks.proofs.pieces.tile.Tie as tie
 
@@ -48,16 +48,19 @@ loop-less c = search needs
 
 loop-again : tie.Need-loop-again Inv-loop μ-loop
 loop-again c =
+    let loop-test = c .before .before .before .before .before .loop-test in
+    let step-end = c .before .before .before .before .step-end in
+    let tile-row = c .before .before .tile-row in
     let s = c .before .before .before .before .before .before .before .before in
     let a = s .args in
     let l = c .before .before .before .before .before .before .loop in
-    let e : c .before .before .before .before .step-end .result ≡ min (l .north + (a .spacing - 1))
-    (a .grid .height - 1) = c .before .before .before .before .step-end .ensures in (
+    let e : step-end .result ≡ min (l .north + (a .spacing - 1))
+    (a .grid .height - 1) = step-end .ensures in (
       tiles-step (a .grid .width) (a .grid .height) (a .spacing) (now (a .words)) (l .words) (l .next) (l .north) (l .inv .0)
-          (c .before .before .before .before .step-end .result) (c .before .before .tile-row .last .1 .1 .1 .1 .0) (c .before .before .tile-row .result)
-          (c .before .before .before .before .before .loop-test .taken) e (c .before .before .tile-row .ensures),
+          (step-end .result) (tile-row .last .1 .1 .1 .1 .0) (tile-row .result)
+          (loop-test .taken) e (tile-row .ensures),
       omega
-          (arith, c .before .before .before .before .before .loop-test .taken),
+          (arith, loop-test .taken),
     )
 
 same-length : tie.Need-same-length Inv-loop μ-loop

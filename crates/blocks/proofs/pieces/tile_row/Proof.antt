@@ -4,9 +4,9 @@ use mathlib.Core.Path.{_≡_}
 use native.Mathlib.Omega.{arith}
 use denote.Ref.{now}
 use borrow.Author.Needs.{needs}
+use Rattle.lists.proofs.Writes.{Writing}
 use Rattle.blocks.specs.Block.{range}
 use Rattle.blocks.proofs.TileWords.{rowLeft, rowWhole, row-start, row-room, row-step, row-done}
-use Rattle.blocks.proofs.Writes.{Writing}
 use Rattle.blocks.proofs.pieces.tile_row.Statement.{statement}
 use Rattle.blocks.proofs.pieces.tile_row.Tie as tie
 
@@ -58,14 +58,15 @@ loop-less c = search needs
 
 loop-again : tie.Need-loop-again Inv-loop μ-loop
 loop-again c =
+    let loop-test = c .before .before .loop-test in
     let s = c .before .before .before .before .before in
     let a = s .args in
     let l = c .before .before .before .loop in
     let e : c .before .step-end .result ≡ min (l .first + (a .spacing - 1)) (a .width - 1) = c .before .step-end .ensures in (
       row-step (a .width) (a .spacing) (range (a .north) (a .south)) (now (a .words)) (a .at) (l .words) (l .next) (l .first) (l .inv .0)
-          (c .before .step-end .result) (c .to-word .result) (c .before .before .loop-test .taken) e (c .to-word .ensures),
+          (c .before .step-end .result) (c .to-word .result) (loop-test .taken) e (c .to-word .ensures),
       omega
-          (arith, c .before .before .loop-test .taken),
+          (arith, loop-test .taken),
     )
 
 same-length : tie.Need-same-length Inv-loop μ-loop

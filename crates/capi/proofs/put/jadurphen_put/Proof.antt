@@ -14,7 +14,9 @@ enum-told : tie.Need-enum-told
 enum-told c = search needs
 
 write-ledger-requires : tie.Need-write-ledger-requires
-write-ledger-requires c κs = put-fits _ _ _ _ _ _ (c .before .before .before .before .ledger-of .ensures) (c .before .before .before .put-entry .ensures) (c .before .enum-told .given .1)
+write-ledger-requires c κs =
+    put-fits _ _ _ _ _ _ (c .before .before .before .before .ledger-of .ensures) (c .before .before .before .put-entry .ensures)
+    (c .before .enum-told .given .1)
 
 enum-known-answer : tie.Need-enum-known-answer
 enum-known-answer c = search needs
@@ -23,13 +25,19 @@ same-length : tie.Need-same-length
 same-length c = search needs
 
 returns : tie.Need-returns
-returns c = put-done _ _ _ _ _ _ (c .before .before .before .before .before .before .before .ledger-of .ensures) _ (c .before .before .before .before .before .before .put-entry .ensures) (c .before .before .before .before .enum-told .given .1) (c .before .before .write-ledger .ensures)
+returns c =
+    let ledger-of = c .before .before .before .before .before .before .before .ledger-of in
+    let put-entry = c .before .before .before .before .before .before .put-entry in
+    put-done _ _ _ _ _ _ (ledger-of .ensures) _ (put-entry .ensures) (c .before .before .before .before .enum-told .given .1)
+    (c .before .before .write-ledger .ensures)
 
 same-length-2 : tie.Need-same-length-2
 same-length-2 c = search needs
 
 returns-2 : tie.Need-returns-2
-returns-2 c = put-refused _ _ _ _ _ _ (c .before .before .before .before .ledger-of .ensures) _ (c .before .before .before .put-entry .ensures) (c .before .answer .given .1)
+returns-2 c =
+    put-refused _ _ _ _ _ _ (c .before .before .before .before .ledger-of .ensures) _ (c .before .before .before .put-entry .ensures)
+    (c .before .answer .given .1)
 
 pub jadurphen-put-spec : {M : Type 1} → statement M
 jadurphen-put-spec =

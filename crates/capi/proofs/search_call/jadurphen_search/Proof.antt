@@ -29,7 +29,11 @@ same-length-3 : tie.Need-same-length-3
 same-length-3 c = search needs
 
 returns : tie.Need-returns
-returns c = search-found _ _ _ _ _ _ _ _ _ _ _ (c .before .before .before .before .before .before .before .before .before .before .before .before .before .before .spacing-from .ensures) _ _ (c .before .before .before .before .before .before .before .before .before .before .most-populous .ensures) (c .before .before .answer .given .1) (c .search-words .ensures)
+returns c =
+    let spacing-from = c .before .before .before .before .before .before .before .before .before .before .before .before .before .before .spacing-from in
+    let most-populous = c .before .before .before .before .before .before .before .before .before .before .most-populous in
+    search-found _ _ _ _ _ _ _ _ _ _ _ (spacing-from .ensures) _ _ (most-populous .ensures) (c .before .before .answer .given .1)
+    (c .search-words .ensures)
 
 same-length-4 : tie.Need-same-length-4
 same-length-4 c = search needs
@@ -41,7 +45,10 @@ same-length-6 : tie.Need-same-length-6
 same-length-6 c = search needs
 
 returns-2 : tie.Need-returns-2
-returns-2 c = search-refused _ _ _ _ _ _ _ _ _ _ _ (c .before .before .before .before .before .before .before .before .before .before .before .before .before .spacing-from .ensures) _ (c .before .before .before .before .before .before .before .before .before .most-populous .ensures) (c .before .answer2 .given .1)
+returns-2 c =
+    let spacing-from = c .before .before .before .before .before .before .before .before .before .before .before .before .before .spacing-from in
+    let most-populous = c .before .before .before .before .before .before .before .before .before .most-populous in
+    search-refused _ _ _ _ _ _ _ _ _ _ _ (spacing-from .ensures) _ (most-populous .ensures) (c .before .answer2 .given .1)
 
 pub jadurphen-search-spec : {M : Type 1} → statement M
 jadurphen-search-spec =

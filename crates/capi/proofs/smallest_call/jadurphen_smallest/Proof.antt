@@ -17,7 +17,12 @@ enum-known-answer : tie.Need-enum-known-answer
 enum-known-answer c = search needs
 
 write-ledger-requires : tie.Need-write-ledger-requires
-write-ledger-requires c κs = smallest-fits _ _ _ _ _ _ _ _ _ _ _ (c .before .before .before .before .before .before .before .before .before .before .before .before .before .before .before .before .spacing-from .ensures) _ (c .before .before .before .before .before .before .before .before .before .before .before .before .before .before .ledger-of .ensures) _ (c .before .before .before .before .before .before .before .before .before .before .smallest-radius .ensures) (c .before .before .answer .given .1)
+write-ledger-requires c κs =
+    let spacing-from = c .before .before .before .before .before .before .before .before .before .before .before .before .before .before .before .before .spacing-from in
+    let ledger-of = c .before .before .before .before .before .before .before .before .before .before .before .before .before .before .ledger-of in
+    let smallest-radius = c .before .before .before .before .before .before .before .before .before .before .smallest-radius in
+    smallest-fits _ _ _ _ _ _ _ _ _ _ _ (spacing-from .ensures) _ (ledger-of .ensures) _ (smallest-radius .ensures)
+    (c .before .before .answer .given .1)
 
 smallest-words-requires : tie.Need-smallest-words-requires
 smallest-words-requires c κs = search needs
@@ -41,7 +46,13 @@ same-length-4 : tie.Need-same-length-4
 same-length-4 c = search needs
 
 returns : tie.Need-returns
-returns c = smallest-found _ _ _ _ _ _ _ _ _ _ _ (c .before .before .before .before .before .before .before .before .before .before .before .before .before .before .before .before .before .before .before .before .before .spacing-from .ensures) _ (c .before .before .before .before .before .before .before .before .before .before .before .before .before .before .before .before .before .before .before .ledger-of .ensures) _ _ _ _ _ _ (c .before .before .before .before .before .before .before .before .before .before .before .before .before .before .before .smallest-radius .ensures) (c .before .before .before .before .before .before .before .answer .given .1) (c .before .before .before .before .write-ledger .ensures) (c .before .smallest-words .ensures) (c .smallest-floats .ensures)
+returns c =
+    let spacing-from = c .before .before .before .before .before .before .before .before .before .before .before .before .before .before .before .before .before .before .before .before .before .spacing-from in
+    let ledger-of = c .before .before .before .before .before .before .before .before .before .before .before .before .before .before .before .before .before .before .before .ledger-of in
+    let smallest-radius = c .before .before .before .before .before .before .before .before .before .before .before .before .before .before .before .smallest-radius in
+    let answer = c .before .before .before .before .before .before .before .answer in
+    smallest-found _ _ _ _ _ _ _ _ _ _ _ (spacing-from .ensures) _ (ledger-of .ensures) _ _ _ _ _ _ (smallest-radius .ensures) (answer .given .1)
+    (c .before .before .before .before .write-ledger .ensures) (c .before .smallest-words .ensures) (c .smallest-floats .ensures)
 
 same-length-5 : tie.Need-same-length-5
 same-length-5 c = search needs
@@ -56,7 +67,12 @@ same-length-8 : tie.Need-same-length-8
 same-length-8 c = search needs
 
 returns-2 : tie.Need-returns-2
-returns-2 c = smallest-refused _ _ _ _ _ _ _ _ _ _ _ (c .before .before .before .before .before .before .before .before .before .before .before .before .before .before .before .spacing-from .ensures) _ (c .before .before .before .before .before .before .before .before .before .before .before .before .before .ledger-of .ensures) _ _ _ (c .before .before .before .before .before .before .before .before .before .smallest-radius .ensures) (c .before .answer2 .given .1)
+returns-2 c =
+    let spacing-from = c .before .before .before .before .before .before .before .before .before .before .before .before .before .before .before .spacing-from in
+    let ledger-of = c .before .before .before .before .before .before .before .before .before .before .before .before .before .ledger-of in
+    let smallest-radius = c .before .before .before .before .before .before .before .before .before .smallest-radius in
+    smallest-refused _ _ _ _ _ _ _ _ _ _ _ (spacing-from .ensures) _ (ledger-of .ensures) _ _ _ (smallest-radius .ensures)
+    (c .before .answer2 .given .1)
 
 pub jadurphen-smallest-spec : {M : Type 1} → statement M
 jadurphen-smallest-spec =

@@ -47,7 +47,9 @@ cast-t36 : tie.Need-cast-t36
 cast-t36 c = search needs
 
 returns : tie.Need-returns
-returns c = words-laid _ _ _ (c .before .before .before .before .before .before .short-words .ensures) (c .before .before .before .before .before .ambiguity-words .ensures)
+returns c =
+    let short-words = c .before .before .before .before .before .before .short-words in
+    words-laid _ _ _ (short-words .ensures) (c .before .before .before .before .before .ambiguity-words .ensures)
 
 pub smallest-words-spec : {M : Type 1} → statement M
 smallest-words-spec =

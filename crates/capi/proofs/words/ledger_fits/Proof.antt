@@ -30,7 +30,10 @@ place-fits-requires : tie.Need-place-fits-requires Inv-loop μ-loop
 place-fits-requires c κs = search needs
 
 returns-2 : tie.Need-returns-2 Inv-loop μ-loop
-returns-2 c = place-unfit _ (c .before .before .before .loop .inv .1) (all-fails capacity _ (c .before .before .before .loop .i) (c .before .before .loop-test .taken) (sym (c .before .place-fits .ensures) ∙ not-true _ (c .if2 .taken)))
+returns-2 c =
+    let loop = c .before .before .before .loop in
+    place-unfit _ (loop .inv .1) (all-fails capacity _ (loop .i) (c .before .before .loop-test .taken)
+    (sym (c .before .place-fits .ensures) ∙ not-true _ (c .if2 .taken)))
 
 add-i : tie.Need-add-i Inv-loop μ-loop
 add-i c = search needs
@@ -39,7 +42,9 @@ loop-less : tie.Need-loop-less Inv-loop μ-loop
 loop-less c = search needs
 
 loop-again : tie.Need-loop-again Inv-loop μ-loop
-loop-again c = (omega arith, c .before .before .before .loop .inv .1, all-more (c .before .before .before .loop .i) _ (c .before .before .before .loop .inv .2) (sym (c .before .place-fits .ensures) ∙ not-false _ (c .if2 .left)))
+loop-again c =
+    let loop = c .before .before .before .loop in
+    (omega arith, loop .inv .1, all-more (loop .i) _ (loop .inv .2) (sym (c .before .place-fits .ensures) ∙ not-false _ (c .if2 .left)))
 
 returns-3 : tie.Need-returns-3 Inv-loop μ-loop
 returns-3 c = let end : c .before .loop .i ≡ capacity = omega arith in all-fit _ (c .before .loop .inv .1) (rw end at (c .before .loop .inv .2))

@@ -29,10 +29,14 @@ mul-t10 : tie.Need-mul-t10
 mul-t10 c = search needs
 
 shared-slice-read-t12 : tie.Need-shared-slice-read-t12
-shared-slice-read-t12 c = omega (arith, fits-length _ (c .before .before .pre .0), c .before .before .pre .1)
+shared-slice-read-t12 c =
+    let pre = c .before .before .pre in
+    omega (arith, fits-length _ (pre .0), pre .1)
 
 cast-t13 : tie.Need-cast-t13
-cast-t13 c = record { fits = row-fits _ _ (fits-place _ (c .before .before .pre .0) _ (c .before .before .pre .1)) }
+cast-t13 c =
+    let pre = c .before .before .pre in
+    record { fits = row-fits _ _ (fits-place _ (pre .0) _ (pre .1)) }
 
 add-t15 : tie.Need-add-t15
 add-t15 c = search needs
@@ -41,10 +45,14 @@ mul-t16 : tie.Need-mul-t16
 mul-t16 c = search needs
 
 shared-slice-read-t18 : tie.Need-shared-slice-read-t18
-shared-slice-read-t18 c = omega (arith, fits-length _ (c .before .before .before .pre .0), c .before .before .before .pre .1)
+shared-slice-read-t18 c =
+    let pre = c .before .before .before .pre in
+    omega (arith, fits-length _ (pre .0), pre .1)
 
 cast-t19 : tie.Need-cast-t19
-cast-t19 c = record { fits = col-fits _ _ (fits-place _ (c .before .before .before .pre .0) _ (c .before .before .before .pre .1)) }
+cast-t19 c =
+    let pre = c .before .before .before .pre in
+    record { fits = col-fits _ _ (fits-place _ (pre .0) _ (pre .1)) }
 
 add-t21 : tie.Need-add-t21
 add-t21 c = search needs
@@ -53,7 +61,9 @@ mul-t22 : tie.Need-mul-t22
 mul-t22 c = search needs
 
 shared-slice-read-t24 : tie.Need-shared-slice-read-t24
-shared-slice-read-t24 c = omega (arith, fits-length _ (c .before .before .before .before .pre .0), c .before .before .before .before .pre .1)
+shared-slice-read-t24 c =
+    let pre = c .before .before .before .before .pre in
+    omega (arith, fits-length _ (pre .0), pre .1)
 
 returns : tie.Need-returns
 unfolding placeAt

@@ -52,7 +52,10 @@ fits-requires-3 : tie.Need-fits-requires-3
 fits-requires-3 c κs = search needs
 
 returns-3 : tie.Need-returns-3
-returns-3 c = col-decides _ _ _ (sym (c .before .before .before .before .before .before .fits2 .ensures) ∙ not-false _ (c .before .before .before .before .before .if1 .left)) (sym (c .before .before .before .fits3 .ensures) ∙ not-false _ (c .before .before .if2 .left)) (c .fits4 .ensures)
+returns-3 c =
+    let fits2 = c .before .before .before .before .before .before .fits2 in
+    col-decides _ _ _ (sym (fits2 .ensures) ∙ not-false _ (c .before .before .before .before .before .if1 .left))
+    (sym (c .before .before .before .fits3 .ensures) ∙ not-false _ (c .before .before .if2 .left)) (c .fits4 .ensures)
 
 pub place-fits-spec : {M : Type 1} → statement M
 place-fits-spec =

@@ -26,7 +26,9 @@ shared-slice-read-ledger : tie.Need-shared-slice-read-ledger Inv-loop μ-loop
 shared-slice-read-ledger c = omega (arith, fits-length _ (c .before .before .before .pre))
 
 loop-holds : tie.Need-loop-holds Inv-loop μ-loop
-loop-holds c = let whole = ap (λ (l : Ledger). length (l .places)) (c .before .fresh .ensures) ∙ fresh-length in (omega arith, refl, whole, whole, sym (over-none _ _))
+loop-holds c =
+    let whole = ap (λ (l : Ledger). length (l .places)) (c .before .fresh .ensures) ∙ fresh-length in
+    (omega arith, refl, whole, whole, sym (over-none _ _))
 
 place-at-requires : tie.Need-place-at-requires Inv-loop μ-loop
 place-at-requires c κs = let fits = c .before .before .before .before .before .pre in (fits, c .loop-test .taken)
@@ -44,10 +46,20 @@ loop-less : tie.Need-loop-less Inv-loop μ-loop
 loop-less c = search needs
 
 loop-again : tie.Need-loop-again Inv-loop μ-loop
-loop-again c = let inv = c .before .before .loop .inv in (omega arith, inv .1, inv .2, length-set (c .before .before .loop .ledger .places) _ _ ∙ inv .3, over-step _ _ _ _ _ (omega (arith, inv .2)) (inv .4) (c .place-at .ensures))
+loop-again c =
+    let inv = c .before .before .loop .inv in (
+      omega arith,
+      inv .1,
+      inv .2,
+      length-set (c .before .before .loop .ledger .places) _ _ ∙ inv .3,
+      over-step _ _ _ _ _ (omega (arith, inv .2))
+          (inv .4) (c .place-at .ensures),
+    )
 
 returns : tie.Need-returns Inv-loop μ-loop
-returns c = let end : c .before .loop .i ≡ capacity = omega arith in read-whole _ _ _ (c .before .loop .inv .1) (c .before .loop .inv .2) (rw end at (c .before .loop .inv .4))
+returns c =
+    let end : c .before .loop .i ≡ capacity = omega arith in read-whole _ _ _ (c .before .loop .inv .1) (c .before .loop .inv .2)
+    (rw end at (c .before .loop .inv .4))
 
 pub read-ledger-spec : {M : Type 1} → statement M
 read-ledger-spec =

@@ -67,7 +67,8 @@ returns c =
     let st = c .before .before .before in
     let l = st .args .t1 in
     let end : c .before .loop .i ≡ capacity = omega arith in
-    write-whole (now (st .args .words)) l (c .before .loop .words) (c .before .loop .inv .1) (places-whole l _ (st .good .0)) (rw end at (c .before .loop .inv .3))
+    write-whole (now (st .args .words)) l (c .before .loop .words) (c .before .loop .inv .1) (places-whole l _ (st .good .0))
+    (rw end at (c .before .loop .inv .3))
 
 pub write-ledger-spec : {M : Type 1} → statement M
 write-ledger-spec =

@@ -14,7 +14,8 @@ returns-2 c = search needs
 
 mul-result : tie.Need-mul-result
 mul-result c =
-    let p = mul-le-mul {n₁ = c .before .before .args .a} {m₁ = c .before .before .args .b} {n₂ = 65535} {m₂ = 65535} (omega arith) (omega arith) in
+    let start = c .before .before in
+    let p = mul-le-mul {n₁ = start .args .a} {m₁ = start .args .b} {n₂ = 65535} {m₂ = 65535} (omega arith) (omega arith) in
     omega arith
 
 returns-3 : tie.Need-returns-3

@@ -18,7 +18,13 @@ returns-3 c = rw (le-leb _ _ (c .before .before .before .before .if1 .left), le-
 
 returns-4 : tie.Need-returns-4
 unfolding sizesInRange
-returns-4 c = rw (le-leb _ _ (c .before .before .before .before .before .if1 .left), le-leb _ _ (c .before .before .before .if2 .left), le-leb _ _ (c .before .if3 .left))
+returns-4 c =
+    rw (
+      le-leb _ _ (c .before .before .before .before .before .if1 .left),
+      le-leb _ _ (c .before .before .before .if2 .left),
+      le-leb _ _
+          (c .before .if3 .left),
+    )
 
 pub sizes-in-range-spec : {M : Type 1} → statement M
 sizes-in-range-spec = tie.close (tie.spec returns returns-2 returns-3 returns-4)

@@ -10,10 +10,14 @@ sheet-index-requires : tie.Need-sheet-index-requires
 sheet-index-requires c κs = search needs
 
 mul-result : tie.Need-mul-result
-mul-result c = omega (arith, c .sheet-index .ensures, place-of _ _ _ _ _ (c .before .before .pre .0) (c .before .before .pre .1))
+mul-result c =
+    let pre = c .before .before .pre in
+    omega (arith, c .sheet-index .ensures, place-of _ _ _ _ _ (pre .0) (pre .1))
 
 shared-slice-read-result : tie.Need-shared-slice-read-result
-shared-slice-read-result c = rw (c .before .sheet-index .ensures) (place-of _ _ _ _ _ (c .before .before .before .pre .0) (c .before .before .before .pre .1) .0)
+shared-slice-read-result c =
+    let pre = c .before .before .before .pre in
+    rw (c .before .sheet-index .ensures) (place-of _ _ _ _ _ (pre .0) (pre .1) .0)
 
 returns : tie.Need-returns
 unfolding angleAt

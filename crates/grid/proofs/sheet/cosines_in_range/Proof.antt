@@ -56,7 +56,8 @@ unfolding everyRow cosineInRange cosinesInRange cosineAt
 returns c =
     let at = c .before .before .before .before in
     let s = at .before .before in
-    sym (all-fails (s .args .grid .height) (tested s) (at .loop .i) (omega (arith, s .pre)) (sym (c .before .cosine-in-range .ensures) ∙ c .if1 .left))
+    sym (all-fails (s .args .grid .height) (tested s) (at .loop .i) (omega (arith, s .pre))
+    (sym (c .before .cosine-in-range .ensures) ∙ c .if1 .left))
 
 returns-2 : tie.Need-returns-2 Inv-loop μ-loop
 unfolding everyRow cosineInRange cosinesInRange cosineAt

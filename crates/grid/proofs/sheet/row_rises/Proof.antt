@@ -22,11 +22,23 @@ at-most-requires-2 c κs = search needs
 
 returns : tie.Need-returns
 unfolding rowRises
-returns c = rw (lt-ltb _ _ (c .before .if1 .taken), c .at-most .ensures, c .before .before .before .before .angle-at .ensures, c .before .before .before .angle-at2 .ensures)
+returns c =
+    rw (
+      lt-ltb _ _ (c .before .if1 .taken),
+      c .at-most .ensures,
+      c .before .before .before .before .angle-at .ensures,
+      c .before .before .before .angle-at2 .ensures,
+    )
 
 returns-2 : tie.Need-returns-2
 unfolding rowRises
-returns-2 c = rw (le-ltb _ _ (c .before .if1 .left), c .at-most2 .ensures, c .before .before .before .before .angle-at .ensures, c .before .before .before .angle-at2 .ensures)
+returns-2 c =
+    rw (
+      le-ltb _ _ (c .before .if1 .left),
+      c .at-most2 .ensures,
+      c .before .before .before .before .angle-at .ensures,
+      c .before .before .before .angle-at2 .ensures,
+    )
 
 pub row-rises-spec : {M : Type 1} → statement M
 row-rises-spec =

@@ -39,8 +39,11 @@ loop-less c = omega arith
 
 loop-again : tie.Need-loop-again Inv-loop μ-loop
 loop-again c =
-    let at = c .before .before .before in
-    (omega arith, all-more (at .loop .r) (tested (at .before .before .before)) (at .loop .inv .1) (sym (c .before .row-rises .ensures) ∙ c .if1 .taken))
+    let at = c .before .before .before in (
+      omega arith,
+      all-more (at .loop .r) (tested (at .before .before .before)) (at .loop .inv .1)
+          (sym (c .before .row-rises .ensures) ∙ c .if1 .taken),
+    )
 
 returns : tie.Need-returns Inv-loop μ-loop
 returns c =

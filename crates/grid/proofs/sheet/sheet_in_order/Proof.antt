@@ -48,8 +48,11 @@ loop-less c = omega arith
 
 loop-again : tie.Need-loop-again Inv-loop μ-loop
 loop-again c =
-    let at = c .before .before .before in
-    (omega arith, all-more (at .loop .c) (tested (at .before .before .before .before .before)) (at .loop .inv .1) (sym (c .before .centre-in-order .ensures) ∙ c .if2 .taken))
+    let at = c .before .before .before in (
+      omega arith,
+      all-more (at .loop .c) (tested (at .before .before .before .before .before)) (at .loop .inv .1)
+          (sym (c .before .centre-in-order .ensures) ∙ c .if2 .taken),
+    )
 
 returns-2 : tie.Need-returns-2 Inv-loop μ-loop
 returns-2 c =

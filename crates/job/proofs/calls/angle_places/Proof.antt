@@ -11,7 +11,8 @@ cast-height : tie.Need-cast-height
 cast-height c = search needs
 
 mul-pairs : tie.Need-mul-pairs
-mul-pairs c = omega (arith, times-le (c .before .args .grid .height) (c .before .args .grid .height) 4294967295 4294967295 (omega arith) (omega arith))
+mul-pairs c =
+    omega (arith, times-le (c .before .args .grid .height) (c .before .args .grid .height) 4294967295 4294967295 (omega arith) (omega arith))
 
 returns : tie.Need-returns
 returns c = pairs-beyond (c .before .before .args .grid) (c .if1 .taken)
@@ -26,7 +27,13 @@ add-n : tie.Need-add-n
 add-n c = search needs
 
 mul-n : tie.Need-mul-n
-mul-n c = omega (arith, times-le (c .before .before .before .args .grid .height * c .before .before .before .args .grid .height) (c .closing .result + 1) 1871 4294967296 (omega arith) (omega arith))
+mul-n c =
+    let start = c .before .before .before in
+    omega (
+      arith,
+      times-le (start .args .grid .height * start .args .grid .height) (c .closing .result + 1) 1871 4294967296 (omega arith)
+          (omega arith),
+    )
 
 returns-2 : tie.Need-returns-2
 returns-2 c = angles-within (c .before .before .before .before .args .grid) (c .before .closing .result) (c .before .closing .ensures) (c .if2 .taken)

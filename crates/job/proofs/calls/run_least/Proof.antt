@@ -3,8 +3,8 @@ use mathlib.Core.Path.{refl, _∙_}
 use borrow.Author.Tests.{not-true, not-false}
 use Rattle.job.proofs.Commands.{goneOn, too-early, refused-there, gone-on}
 use Rattle.job.proofs.Lent.{least-found, least-refused}
-use Rattle.job.specs.declared.Command.the-variants.{Least}
-use Rattle.job.specs.Line.{leastLine}
+use Rattle.commands.specs.declared.Command.the-variants.{Least}
+use Rattle.lines.specs.Line.{leastLine}
 use Rattle.job.specs.State.{first, mapOf}
 use borrow.Author.Needs.{needs}
 use Rattle.job.proofs.calls.run_least.Statement.{statement}
@@ -15,7 +15,9 @@ refuse-requires c κs = search needs
 
 returns : tie.Need-returns
 unfolding first
-returns c = c .refuse .ensures ∙ too-early (c .before .before .args .state) (Least (c .before .before .args .spacing) (c .before .before .args .share)) refl (not-true _ (c .before .if1 .taken))
+returns c =
+    let start = c .before .before in
+    c .refuse .ensures ∙ too-early (start .args .state) (Least (start .args .spacing) (start .args .share)) refl (not-true _ (c .before .if1 .taken))
 
 least-of-requires : tie.Need-least-of-requires
 least-of-requires c κs = search needs
@@ -41,17 +43,30 @@ refuse-requires-2 c κs = search needs
 returns-2 : tie.Need-returns-2
 unfolding goneOn
 returns-2 c =
+    let if1 = c .before .before .before .before .before .before .before .before .if1 in
+    let least-of = c .before .before .before .before .before .before .before .least-of in
+    let with-ledger = c .before .before .with-ledger in
     let s = c .before .before .before .before .before .before .before .before .before .args .state in
     c .go-on .ensures
-    ∙ gone-on s (Least (c .before .before .before .before .before .before .before .before .before .args .spacing) (c .before .before .before .before .before .before .before .before .before .args .share)) (record { map = mapOf s; ledger = c .before .before .before .before .before .before .before .least-of .result .ledger }) (leastLine _) (c .before .before .with-ledger .result) (c .before .least-line .result)
-    (least-found s (c .before .before .before .before .before .before .before .before .before .args .spacing) (c .before .before .before .before .before .before .before .before .before .args .share) (c .before .before .before .before .before .before .before .least-of .result) (c .before .before .before .before .before .before .before .least-of .ensures) _ (c .before .before .before .before .answer .given .1)) (not-false _ (c .before .before .before .before .before .before .before .before .if1 .left)) (c .before .before .with-ledger .ensures)
+    ∙ gone-on s (Least (c .before .before .before .before .before .before .before .before .before .args .spacing)
+    (c .before .before .before .before .before .before .before .before .before .args .share))
+    (record { map = mapOf s; ledger = least-of .result .ledger }) (leastLine _) (with-ledger .result) (c .before .least-line .result)
+    (least-found s (c .before .before .before .before .before .before .before .before .before .args .spacing)
+    (c .before .before .before .before .before .before .before .before .before .args .share) (least-of .result) (least-of .ensures) _
+    (c .before .before .before .before .answer .given .1)) (not-false _ (if1 .left)) (with-ledger .ensures)
     (c .before .least-line .ensures)
 
 returns-3 : tie.Need-returns-3
 returns-3 c =
+    let if1 = c .before .before .before .before .before .before .if1 in
+    let least-of = c .before .before .before .before .before .least-of in
     let s = c .before .before .before .before .before .before .before .args .state in
     c .refuse2 .ensures
-    ∙ refused-there s (Least (c .before .before .before .before .before .before .before .args .spacing) (c .before .before .before .before .before .before .before .args .share)) _ (least-refused s (c .before .before .before .before .before .before .before .args .spacing) (c .before .before .before .before .before .before .before .args .share) (c .before .before .before .before .before .least-of .result) (c .before .before .before .before .before .least-of .ensures) _ (c .before .before .answer2 .given .1)) (not-false _ (c .before .before .before .before .before .before .if1 .left))
+    ∙ refused-there s (Least (c .before .before .before .before .before .before .before .args .spacing)
+    (c .before .before .before .before .before .before .before .args .share)) _
+    (least-refused s (c .before .before .before .before .before .before .before .args .spacing)
+    (c .before .before .before .before .before .before .before .args .share) (least-of .result) (least-of .ensures) _
+    (c .before .before .answer2 .given .1)) (not-false _ (if1 .left))
 
 pub run-least-spec : {M : Type 1} → statement M
 run-least-spec =

@@ -3,8 +3,8 @@ use mathlib.Core.Path.{refl, _∙_}
 use borrow.Author.Tests.{not-true, not-false}
 use Rattle.job.proofs.Commands.{goneOn, state-begun, too-early, refused-there, gone-on}
 use Rattle.job.proofs.Lent.{most-found, most-refused}
-use Rattle.job.specs.declared.Command.the-variants.{Most}
-use Rattle.job.specs.Line.{mostLine}
+use Rattle.commands.specs.declared.Command.the-variants.{Most}
+use Rattle.lines.specs.Line.{mostLine}
 use Rattle.job.specs.State.{first, worldOf}
 use borrow.Author.Needs.{needs}
 use Rattle.job.proofs.calls.run_most.Statement.{statement}
@@ -15,7 +15,9 @@ refuse-requires c κs = search needs
 
 returns : tie.Need-returns
 unfolding first
-returns c = c .refuse .ensures ∙ too-early (c .before .before .args .state) (Most (c .before .before .args .spacing) (c .before .before .args .km)) refl (not-true _ (c .before .if1 .taken))
+returns c =
+    let start = c .before .before in
+    c .refuse .ensures ∙ too-early (start .args .state) (Most (start .args .spacing) (start .args .km)) refl (not-true _ (c .before .if1 .taken))
 
 most-of-requires : tie.Need-most-of-requires
 most-of-requires c κs = search needs
@@ -38,18 +40,27 @@ refuse-requires-2 c κs = search needs
 returns-2 : tie.Need-returns-2
 unfolding goneOn
 returns-2 c =
+    let if1 = c .before .before .before .before .before .before .if1 in
+    let most-of = c .before .before .before .before .before .most-of in
     let s = c .before .before .before .before .before .before .before .args .state in
-    let on = not-false _ (c .before .before .before .before .before .before .if1 .left) in
+    let on = not-false _ (if1 .left) in
     let f = c .before .before .before .found .given .0 in
     c .go-on .ensures
-    ∙ gone-on s (Most (c .before .before .before .before .before .before .before .args .spacing) (c .before .before .before .before .before .before .before .args .km)) (worldOf s) (mostLine _) s (c .before .most-line .result)
-    (most-found s (c .before .before .before .before .before .before .before .args .spacing) (c .before .before .before .before .before .before .before .args .km) (c .before .before .before .before .before .most-of .result) (c .before .before .before .before .before .most-of .ensures) _ (c .before .before .before .found .given .1)) on (state-begun s on) (c .before .most-line .ensures)
+    ∙ gone-on s (Most (c .before .before .before .before .before .before .before .args .spacing)
+    (c .before .before .before .before .before .before .before .args .km)) (worldOf s) (mostLine _) s (c .before .most-line .result)
+    (most-found s (c .before .before .before .before .before .before .before .args .spacing)
+    (c .before .before .before .before .before .before .before .args .km) (most-of .result) (most-of .ensures) _
+    (c .before .before .before .found .given .1)) on (state-begun s on) (c .before .most-line .ensures)
 
 returns-3 : tie.Need-returns-3
 returns-3 c =
+    let most-of = c .before .before .before .before .most-of in
     let s = c .before .before .before .before .before .before .args .state in
     c .refuse2 .ensures
-    ∙ refused-there s (Most (c .before .before .before .before .before .before .args .spacing) (c .before .before .before .before .before .before .args .km)) _ (most-refused s (c .before .before .before .before .before .before .args .spacing) (c .before .before .before .before .before .before .args .km) (c .before .before .before .before .most-of .result) (c .before .before .before .before .most-of .ensures) _ (c .before .before .number .given .1)) (not-false _ (c .before .before .before .before .before .if1 .left))
+    ∙ refused-there s (Most (c .before .before .before .before .before .before .args .spacing)
+    (c .before .before .before .before .before .before .args .km)) _
+    (most-refused s (c .before .before .before .before .before .before .args .spacing) (c .before .before .before .before .before .before .args .km)
+    (most-of .result) (most-of .ensures) _ (c .before .before .number .given .1)) (not-false _ (c .before .before .before .before .before .if1 .left))
 
 pub run-most-spec : {M : Type 1} → statement M
 run-most-spec =

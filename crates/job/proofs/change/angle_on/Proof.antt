@@ -18,14 +18,25 @@ row-on-requires-2 c κs = search needs
 
 returns-2 : tie.Need-returns-2
 unfolding angleOn
-returns-2 c = rw (sym (c .before .before .before .row-on .ensures) ∙ not-false _ (c .before .before .if1 .left), sym (c .before .row-on2 .ensures) ∙ not-true _ (c .if2 .taken))
+returns-2 c =
+    rw (
+      sym (c .before .before .before .row-on .ensures) ∙ not-false _ (c .before .before .if1 .left),
+      sym (c .before .row-on2 .ensures) ∙ not-true _
+          (c .if2 .taken),
+    )
 
 closing-requires : tie.Need-closing-requires
 closing-requires c κs = search needs
 
 returns-3 : tie.Need-returns-3
 unfolding angleOn
-returns-3 c = rw (sym (c .before .before .before .before .row-on .ensures) ∙ not-false _ (c .before .before .before .if1 .left), sym (c .before .before .row-on2 .ensures) ∙ not-false _ (c .before .if2 .left), c .closing .ensures)
+returns-3 c =
+    rw (
+      sym (c .before .before .before .before .row-on .ensures) ∙ not-false _ (c .before .before .before .if1 .left),
+      sym
+          (c .before .before .row-on2 .ensures) ∙ not-false _ (c .before .if2 .left),
+      c .closing .ensures,
+    )
 
 pub angle-on-spec : {M : Type 1} → statement M
 angle-on-spec =

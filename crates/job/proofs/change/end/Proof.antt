@@ -2,7 +2,7 @@
 use mathlib.Core.Path.{refl, _∙_}
 use borrow.Author.Tests.{not-true, not-false}
 use Rattle.job.proofs.Commands.{state-begun, too-early, in-world}
-use Rattle.job.specs.declared.Command.the-variants.{End}
+use Rattle.commands.specs.declared.Command.the-variants.{End}
 use Rattle.job.specs.State.{inWorld, first, settle, doneOf}
 use borrow.Author.Needs.{needs}
 use Rattle.job.proofs.change.end.Statement.{statement}
@@ -20,7 +20,14 @@ blank-requires c κs = search needs
 
 returns-2 : tie.Need-returns-2
 unfolding inWorld settle doneOf
-returns-2 c = rw (in-world (c .before .before .args .state) End (not-false _ (c .before .if1 .left)), state-begun (c .before .before .args .state) (not-false _ (c .before .if1 .left)), c .blank .ensures .0)
+returns-2 c =
+    let start = c .before .before in
+    rw (
+      in-world (start .args .state) End (not-false _ (c .before .if1 .left)),
+      state-begun (start .args .state)
+          (not-false _ (c .before .if1 .left)),
+      c .blank .ensures .0,
+    )
 
 pub end-spec : {M : Type 1} → statement M
 end-spec = tie.close (tie.spec refuse-requires returns blank-requires returns-2)

@@ -3,7 +3,7 @@ use Rattle.job.specs.State.{angleOn, withMap, withAngle, inWorld, first,
 use mathlib.Core.Path.{refl, sym, _∙_}
 use borrow.Author.Tests.{not-true, not-false}
 use Rattle.job.proofs.Commands.{goneOn, too-early, off-grid, on-grid}
-use Rattle.job.specs.declared.Command.the-variants.{SetAngle}
+use Rattle.commands.specs.declared.Command.the-variants.{SetAngle}
 use borrow.Author.Needs.{needs}
 use Rattle.job.proofs.change.set_angle.Statement.{statement}
 use Rattle.job.proofs.change.set_angle.Tie as tie
@@ -13,7 +13,10 @@ refuse-requires c κs = search needs
 
 returns : tie.Need-returns
 unfolding first
-returns c = c .refuse .ensures ∙ too-early (c .before .before .args .state) (SetAngle (c .before .before .args .centre) (c .before .before .args .row) (c .before .before .args .offset) (c .before .before .args .angle)) refl (not-true _ (c .before .if1 .taken))
+returns c =
+    let start = c .before .before in
+    c .refuse .ensures ∙ too-early (start .args .state)
+    (SetAngle (start .args .centre) (start .args .row) (start .args .offset) (start .args .angle)) refl (not-true _ (c .before .if1 .taken))
 
 angle-on-requires : tie.Need-angle-on-requires
 angle-on-requires c κs = search needs
@@ -23,7 +26,15 @@ refuse-requires-2 c κs = search needs
 
 returns-2 : tie.Need-returns-2
 unfolding inWorld worldOf mapOf
-returns-2 c = c .refuse2 .ensures ∙ off-grid (c .before .before .before .before .before .args .state) (SetAngle (c .before .before .before .before .before .args .centre) (c .before .before .before .before .before .args .row) (c .before .before .before .before .before .args .offset) (c .before .before .before .before .before .args .angle)) (angleOn (c .before .before .before .before .before .args .state .grid) (c .before .before .before .before .before .args .centre) (c .before .before .before .before .before .args .row) (c .before .before .before .before .before .args .offset)) (withMap (worldOf (c .before .before .before .before .before .args .state)) (withAngle (mapOf (c .before .before .before .before .before .args .state)) (c .before .before .before .before .before .args .centre) (c .before .before .before .before .before .args .row) (c .before .before .before .before .before .args .offset) (c .before .before .before .before .before .args .angle))) refl (not-false _ (c .before .before .before .before .if1 .left)) (sym (c .before .before .angle-on .ensures) ∙ not-true _ (c .before .if2 .taken))
+returns-2 c =
+    let start = c .before .before .before .before .before in
+    let state = start .args .state in
+    let centre = start .args .centre in
+    let row = start .args .row in
+    let offset = start .args .offset in
+    c .refuse2 .ensures ∙ off-grid state (SetAngle centre row offset (start .args .angle)) (angleOn (state .grid) centre row offset)
+    (withMap (worldOf state) (withAngle (mapOf state) centre row offset (start .args .angle))) refl
+    (not-false _ (c .before .before .before .before .if1 .left)) (sym (c .before .before .angle-on .ensures) ∙ not-true _ (c .before .if2 .taken))
 
 with-angle-requires : tie.Need-with-angle-requires
 with-angle-requires c κs = not-false _ (c .before .before .before .if1 .left)
@@ -36,7 +47,18 @@ go-on-requires c κs = search needs
 
 returns-3 : tie.Need-returns-3
 unfolding inWorld worldOf mapOf goneOn
-returns-3 c = c .go-on .ensures ∙ on-grid (c .before .before .before .before .before .before .before .args .state) (SetAngle (c .before .before .before .before .before .before .before .args .centre) (c .before .before .before .before .before .before .before .args .row) (c .before .before .before .before .before .before .before .args .offset) (c .before .before .before .before .before .before .before .args .angle)) (angleOn (c .before .before .before .before .before .before .before .args .state .grid) (c .before .before .before .before .before .before .before .args .centre) (c .before .before .before .before .before .before .before .args .row) (c .before .before .before .before .before .before .before .args .offset)) (withMap (worldOf (c .before .before .before .before .before .before .before .args .state)) (withAngle (mapOf (c .before .before .before .before .before .before .before .args .state)) (c .before .before .before .before .before .before .before .args .centre) (c .before .before .before .before .before .before .before .args .row) (c .before .before .before .before .before .before .before .args .offset) (c .before .before .before .before .before .before .before .args .angle))) (c .before .before .with-angle .result) (c .before .blank .result) refl (not-false _ (c .before .before .before .before .before .before .if1 .left)) (sym (c .before .before .before .before .angle-on .ensures) ∙ not-false _ (c .before .before .before .if2 .left)) (c .before .before .with-angle .ensures) (c .before .blank .ensures .0)
+returns-3 c =
+    let start = c .before .before .before .before .before .before .before in
+    let if1 = c .before .before .before .before .before .before .if1 in
+    let with-angle = c .before .before .with-angle in
+    let state = start .args .state in
+    let centre = start .args .centre in
+    let row = start .args .row in
+    let offset = start .args .offset in
+    c .go-on .ensures ∙ on-grid state (SetAngle centre row offset (start .args .angle)) (angleOn (state .grid) centre row offset)
+    (withMap (worldOf state) (withAngle (mapOf state) centre row offset (start .args .angle))) (with-angle .result) (c .before .blank .result) refl
+    (not-false _ (if1 .left)) (sym (c .before .before .before .before .angle-on .ensures) ∙ not-false _ (c .before .before .before .if2 .left))
+    (with-angle .ensures) (c .before .blank .ensures .0)
 
 pub set-angle-spec : {M : Type 1} → statement M
 set-angle-spec =

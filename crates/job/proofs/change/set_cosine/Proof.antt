@@ -3,7 +3,7 @@ use Rattle.job.specs.State.{rowOn, withMap, withCosine, inWorld, first, 
 use mathlib.Core.Path.{refl, sym, _∙_}
 use borrow.Author.Tests.{not-true, not-false}
 use Rattle.job.proofs.Commands.{goneOn, too-early, off-grid, on-grid}
-use Rattle.job.specs.declared.Command.the-variants.{SetCosine}
+use Rattle.commands.specs.declared.Command.the-variants.{SetCosine}
 use borrow.Author.Needs.{needs}
 use Rattle.job.proofs.change.set_cosine.Statement.{statement}
 use Rattle.job.proofs.change.set_cosine.Tie as tie
@@ -13,7 +13,9 @@ refuse-requires c κs = search needs
 
 returns : tie.Need-returns
 unfolding first
-returns c = c .refuse .ensures ∙ too-early (c .before .before .args .state) (SetCosine (c .before .before .args .row) (c .before .before .args .cosine)) refl (not-true _ (c .before .if1 .taken))
+returns c =
+    let start = c .before .before in
+    c .refuse .ensures ∙ too-early (start .args .state) (SetCosine (start .args .row) (start .args .cosine)) refl (not-true _ (c .before .if1 .taken))
 
 row-on-requires : tie.Need-row-on-requires
 row-on-requires c κs = search needs
@@ -23,7 +25,13 @@ refuse-requires-2 c κs = search needs
 
 returns-2 : tie.Need-returns-2
 unfolding inWorld worldOf mapOf
-returns-2 c = c .refuse2 .ensures ∙ off-grid (c .before .before .before .before .before .args .state) (SetCosine (c .before .before .before .before .before .args .row) (c .before .before .before .before .before .args .cosine)) (rowOn (c .before .before .before .before .before .args .state .grid) (c .before .before .before .before .before .args .row)) (withMap (worldOf (c .before .before .before .before .before .args .state)) (withCosine (mapOf (c .before .before .before .before .before .args .state)) (c .before .before .before .before .before .args .row) (c .before .before .before .before .before .args .cosine))) refl (not-false _ (c .before .before .before .before .if1 .left)) (sym (c .before .before .row-on .ensures) ∙ not-true _ (c .before .if2 .taken))
+returns-2 c =
+    let start = c .before .before .before .before .before in
+    let state = start .args .state in
+    let row = start .args .row in
+    c .refuse2 .ensures ∙ off-grid state (SetCosine row (start .args .cosine)) (rowOn (state .grid) row)
+    (withMap (worldOf state) (withCosine (mapOf state) row (start .args .cosine))) refl (not-false _ (c .before .before .before .before .if1 .left))
+    (sym (c .before .before .row-on .ensures) ∙ not-true _ (c .before .if2 .taken))
 
 with-cosine-requires : tie.Need-with-cosine-requires
 with-cosine-requires c κs = not-false _ (c .before .before .before .if1 .left)
@@ -36,7 +44,16 @@ go-on-requires c κs = search needs
 
 returns-3 : tie.Need-returns-3
 unfolding inWorld worldOf mapOf goneOn
-returns-3 c = c .go-on .ensures ∙ on-grid (c .before .before .before .before .before .before .before .args .state) (SetCosine (c .before .before .before .before .before .before .before .args .row) (c .before .before .before .before .before .before .before .args .cosine)) (rowOn (c .before .before .before .before .before .before .before .args .state .grid) (c .before .before .before .before .before .before .before .args .row)) (withMap (worldOf (c .before .before .before .before .before .before .before .args .state)) (withCosine (mapOf (c .before .before .before .before .before .before .before .args .state)) (c .before .before .before .before .before .before .before .args .row) (c .before .before .before .before .before .before .before .args .cosine))) (c .before .before .with-cosine .result) (c .before .blank .result) refl (not-false _ (c .before .before .before .before .before .before .if1 .left)) (sym (c .before .before .before .before .row-on .ensures) ∙ not-false _ (c .before .before .before .if2 .left)) (c .before .before .with-cosine .ensures) (c .before .blank .ensures .0)
+returns-3 c =
+    let start = c .before .before .before .before .before .before .before in
+    let if1 = c .before .before .before .before .before .before .if1 in
+    let with-cosine = c .before .before .with-cosine in
+    let state = start .args .state in
+    let row = start .args .row in
+    c .go-on .ensures ∙ on-grid state (SetCosine row (start .args .cosine)) (rowOn (state .grid) row)
+    (withMap (worldOf state) (withCosine (mapOf state) row (start .args .cosine))) (with-cosine .result) (c .before .blank .result) refl
+    (not-false _ (if1 .left)) (sym (c .before .before .before .before .row-on .ensures) ∙ not-false _ (c .before .before .before .if2 .left))
+    (with-cosine .ensures) (c .before .blank .ensures .0)
 
 pub set-cosine-spec : {M : Type 1} → statement M
 set-cosine-spec =

@@ -4,7 +4,7 @@ use Rattle.job.specs.State.{withMap, withCount, inWorld, first, mapOf, w
 use mathlib.Core.Path.{refl, sym, _∙_}
 use borrow.Author.Tests.{not-true, not-false}
 use Rattle.job.proofs.Commands.{goneOn, too-early, off-grid, on-grid}
-use Rattle.job.specs.declared.Command.the-variants.{SetCount}
+use Rattle.commands.specs.declared.Command.the-variants.{SetCount}
 use borrow.Author.Needs.{needs}
 use Rattle.job.proofs.change.set_count.Statement.{statement}
 use Rattle.job.proofs.change.set_count.Tie as tie
@@ -14,7 +14,9 @@ refuse-requires c κs = search needs
 
 returns : tie.Need-returns
 unfolding first
-returns c = c .refuse .ensures ∙ too-early (c .before .before .args .state) (SetCount (c .before .before .args .cell) (c .before .before .args .count)) refl (not-true _ (c .before .if1 .taken))
+returns c =
+    let start = c .before .before in
+    c .refuse .ensures ∙ too-early (start .args .state) (SetCount (start .args .cell) (start .args .count)) refl (not-true _ (c .before .if1 .taken))
 
 on-grid-requires : tie.Need-on-grid-requires
 on-grid-requires c κs = search needs
@@ -24,7 +26,13 @@ refuse-requires-2 c κs = search needs
 
 returns-2 : tie.Need-returns-2
 unfolding inWorld worldOf mapOf
-returns-2 c = c .refuse2 .ensures ∙ off-grid (c .before .before .before .before .before .args .state) (SetCount (c .before .before .before .before .before .args .cell) (c .before .before .before .before .before .args .count)) (onGrid (c .before .before .before .before .before .args .state .grid) (c .before .before .before .before .before .args .cell)) (withMap (worldOf (c .before .before .before .before .before .args .state)) (withCount (mapOf (c .before .before .before .before .before .args .state)) (c .before .before .before .before .before .args .cell) (c .before .before .before .before .before .args .count))) refl (not-false _ (c .before .before .before .before .if1 .left)) (sym (c .before .before .on-grid .ensures) ∙ not-true _ (c .before .if2 .taken))
+returns-2 c =
+    let start = c .before .before .before .before .before in
+    let state = start .args .state in
+    let cell = start .args .cell in
+    c .refuse2 .ensures ∙ off-grid state (SetCount cell (start .args .count)) (onGrid (state .grid) cell)
+    (withMap (worldOf state) (withCount (mapOf state) cell (start .args .count))) refl (not-false _ (c .before .before .before .before .if1 .left))
+    (sym (c .before .before .on-grid .ensures) ∙ not-true _ (c .before .if2 .taken))
 
 with-count-requires : tie.Need-with-count-requires
 with-count-requires c κs = not-false _ (c .before .before .before .if1 .left)
@@ -37,7 +45,16 @@ go-on-requires c κs = search needs
 
 returns-3 : tie.Need-returns-3
 unfolding inWorld worldOf mapOf goneOn
-returns-3 c = c .go-on .ensures ∙ on-grid (c .before .before .before .before .before .before .before .args .state) (SetCount (c .before .before .before .before .before .before .before .args .cell) (c .before .before .before .before .before .before .before .args .count)) (onGrid (c .before .before .before .before .before .before .before .args .state .grid) (c .before .before .before .before .before .before .before .args .cell)) (withMap (worldOf (c .before .before .before .before .before .before .before .args .state)) (withCount (mapOf (c .before .before .before .before .before .before .before .args .state)) (c .before .before .before .before .before .before .before .args .cell) (c .before .before .before .before .before .before .before .args .count))) (c .before .before .with-count .result) (c .before .blank .result) refl (not-false _ (c .before .before .before .before .before .before .if1 .left)) (sym (c .before .before .before .before .on-grid .ensures) ∙ not-false _ (c .before .before .before .if2 .left)) (c .before .before .with-count .ensures) (c .before .blank .ensures .0)
+returns-3 c =
+    let start = c .before .before .before .before .before .before .before in
+    let if1 = c .before .before .before .before .before .before .if1 in
+    let with-count = c .before .before .with-count in
+    let state = start .args .state in
+    let cell = start .args .cell in
+    c .go-on .ensures ∙ on-grid state (SetCount cell (start .args .count)) (onGrid (state .grid) cell)
+    (withMap (worldOf state) (withCount (mapOf state) cell (start .args .count))) (with-count .result) (c .before .blank .result) refl
+    (not-false _ (if1 .left)) (sym (c .before .before .before .before .on-grid .ensures) ∙ not-false _ (c .before .before .before .if2 .left))
+    (with-count .ensures) (c .before .blank .ensures .0)
 
 pub set-count-spec : {M : Type 1} → statement M
 set-count-spec =

@@ -14,16 +14,22 @@ cast-pair-2 : tie.Need-cast-pair-2
 cast-pair-2 c = search needs
 
 mul-pair : tie.Need-mul-pair
-mul-pair c = omega (arith, times-le (c .before .before .args .centre .0) (c .before .before .args .grid .height) 4294967295 4294967295 (omega arith) (omega arith))
+mul-pair c =
+    let start = c .before .before in
+    omega (arith, times-le (start .args .centre .0) (start .args .grid .height) 4294967295 4294967295 (omega arith) (omega arith))
 
 cast-pair-3 : tie.Need-cast-pair-3
 cast-pair-3 c = search needs
 
 add-pair : tie.Need-add-pair
-add-pair c = omega (arith, times-le (c .before .before .before .args .centre .0) (c .before .before .before .args .grid .height) 4294967295 4294967295 (omega arith) (omega arith))
+add-pair c =
+    let start = c .before .before .before in
+    omega (arith, times-le (start .args .centre .0) (start .args .grid .height) 4294967295 4294967295 (omega arith) (omega arith))
 
 returns : tie.Need-returns
-returns c = pair-beyond (c .before .before .before .before .args .grid) (c .before .before .before .before .args .centre) (c .before .before .before .before .args .row) (c .before .before .before .before .args .offset) (c .if1 .taken)
+returns c =
+    let start = c .before .before .before .before in
+    pair-beyond (start .args .grid) (start .args .centre) (start .args .row) (start .args .offset) (c .if1 .taken)
 
 closing-requires : tie.Need-closing-requires
 closing-requires c κs = search needs
@@ -35,16 +41,34 @@ add-place : tie.Need-add-place
 add-place c = search needs
 
 mul-place : tie.Need-mul-place
-mul-place c = omega (arith, times-le (c .before .before .before .before .before .args .centre .0 * c .before .before .before .before .before .args .grid .height + c .before .before .before .before .before .args .row .0) (c .closing .result + 1) 1871 4294967296 (omega arith) (omega arith))
+mul-place c =
+    let start = c .before .before .before .before .before in
+    omega (
+      arith,
+      times-le (start .args .centre .0 * start .args .grid .height + start .args .row .0) (c .closing .result + 1) 1871 4294967296
+          (omega arith) (omega arith),
+    )
 
 add-place-2 : tie.Need-add-place-2
-add-place-2 c = omega (arith, times-le (c .before .before .before .before .before .args .centre .0 * c .before .before .before .before .before .args .grid .height + c .before .before .before .before .before .args .row .0) (c .closing .result + 1) 1871 4294967296 (omega arith) (omega arith))
+add-place-2 c =
+    let start = c .before .before .before .before .before in
+    omega (
+      arith,
+      times-le (start .args .centre .0 * start .args .grid .height + start .args .row .0) (c .closing .result + 1) 1871 4294967296
+          (omega arith) (omega arith),
+    )
 
 returns-2 : tie.Need-returns-2
-returns-2 c = angle-within (c .before .before .before .before .before .before .args .grid) (c .before .before .before .before .before .before .args .centre) (c .before .before .before .before .before .before .args .row) (c .before .before .before .before .before .before .args .offset) (c .before .closing .result) (c .before .closing .ensures) (c .if2 .taken)
+returns-2 c =
+    let start = c .before .before .before .before .before .before in
+    angle-within (start .args .grid) (start .args .centre) (start .args .row) (start .args .offset) (c .before .closing .result)
+    (c .before .closing .ensures) (c .if2 .taken)
 
 returns-3 : tie.Need-returns-3
-returns-3 c = angle-beyond (c .before .before .before .before .before .before .args .grid) (c .before .before .before .before .before .before .args .centre) (c .before .before .before .before .before .before .args .row) (c .before .before .before .before .before .before .args .offset) (c .before .closing .result) (c .before .closing .ensures) (c .if2 .left)
+returns-3 c =
+    let start = c .before .before .before .before .before .before in
+    angle-beyond (start .args .grid) (start .args .centre) (start .args .row) (start .args .offset) (c .before .closing .result)
+    (c .before .closing .ensures) (c .if2 .left)
 
 pub angle-place-spec : {M : Type 1} → statement M
 angle-place-spec =

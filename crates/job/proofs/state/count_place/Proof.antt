@@ -12,13 +12,17 @@ cast-result-2 : tie.Need-cast-result-2
 cast-result-2 c = search needs
 
 mul-result : tie.Need-mul-result
-mul-result c = omega (arith, times-le (c .before .before .args .cell .row .0) (c .before .before .args .grid .width) 4294967295 4294967295 (omega arith) (omega arith))
+mul-result c =
+    let start = c .before .before in
+    omega (arith, times-le (start .args .cell .row .0) (start .args .grid .width) 4294967295 4294967295 (omega arith) (omega arith))
 
 cast-result-3 : tie.Need-cast-result-3
 cast-result-3 c = search needs
 
 add-result : tie.Need-add-result
-add-result c = omega (arith, times-le (c .before .before .before .args .cell .row .0) (c .before .before .before .args .grid .width) 4294967295 4294967295 (omega arith) (omega arith))
+add-result c =
+    let start = c .before .before .before in
+    omega (arith, times-le (start .args .cell .row .0) (start .args .grid .width) 4294967295 4294967295 (omega arith) (omega arith))
 
 returns : tie.Need-returns
 returns c = search needs

@@ -18,7 +18,12 @@ emptied-requires : tie.Need-emptied-requires
 emptied-requires c κs = search needs
 
 returns : tie.Need-returns
-returns c = angle-changed (c .before .before .before .before .before .before .args .state) (c .before .before .before .before .before .before .pre) (c .emptied .result) (c .emptied .ensures) (c .before .before .before .before .before .before .args .centre) (c .before .before .before .before .before .before .args .row) (c .before .before .before .before .before .before .args .offset) (c .before .before .before .before .before .before .args .angle) (c .before .put-angle .result) (angles-whole (c .before .before .before .before .before .before .args .state) _ (c .before .before .before .before .before .before .good .0)) (c .before .put-angle .ensures ∙ ap (λ (i : ℕ). set (c .before .before .before .before .before .before .args .state .angles) i (c .before .before .before .before .before .before .args .angle)) (c .before .before .angle-place .ensures))
+returns c =
+    let start = c .before .before .before .before .before .before in
+    let state = start .args .state in
+    angle-changed state (start .pre) (c .emptied .result) (c .emptied .ensures) (start .args .centre) (start .args .row) (start .args .offset)
+    (start .args .angle) (c .before .put-angle .result) (angles-whole state _ (start .good .0))
+    (c .before .put-angle .ensures ∙ ap (λ (i : ℕ). set (state .angles) i (start .args .angle)) (c .before .before .angle-place .ensures))
 
 pub with-angle-spec : {M : Type 1} → statement M
 with-angle-spec =

@@ -11,7 +11,10 @@ emptied-requires : tie.Need-emptied-requires
 emptied-requires c κs = search needs
 
 returns : tie.Need-returns
-returns c = cosine-changed (c .before .before .before .before .args .state) (c .before .before .before .before .pre) (c .emptied .result) (c .emptied .ensures) (c .before .before .before .before .args .row) (c .before .before .before .before .args .cosine) (c .before .put-cosine .result) (c .before .put-cosine .ensures)
+returns c =
+    let start = c .before .before .before .before in
+    cosine-changed (start .args .state) (start .pre) (c .emptied .result) (c .emptied .ensures) (start .args .row) (start .args .cosine)
+    (c .before .put-cosine .result) (c .before .put-cosine .ensures)
 
 pub with-cosine-spec : {M : Type 1} → statement M
 with-cosine-spec = tie.close (tie.spec put-cosine-requires emptied-requires returns)

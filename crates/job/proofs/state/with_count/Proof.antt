@@ -17,7 +17,11 @@ emptied-requires : tie.Need-emptied-requires
 emptied-requires c κs = search needs
 
 returns : tie.Need-returns
-returns c = count-changed (c .before .before .before .before .before .before .args .state) (c .before .before .before .before .before .before .pre) (c .emptied .result) (c .emptied .ensures) (c .before .before .before .before .before .before .args .cell) (c .before .before .before .before .before .before .args .count) (c .before .put-count .result) (c .before .put-count .ensures ∙ ap (λ (i : ℕ). set (c .before .before .before .before .before .before .args .state .counts) i (c .before .before .before .before .before .before .args .count)) (c .before .before .count-place .ensures))
+returns c =
+    let start = c .before .before .before .before .before .before in
+    count-changed (start .args .state) (start .pre) (c .emptied .result) (c .emptied .ensures) (start .args .cell) (start .args .count)
+    (c .before .put-count .result) (c .before .put-count .ensures ∙ ap (λ (i : ℕ). set (start .args .state .counts) i (start .args .count))
+    (c .before .before .count-place .ensures))
 
 pub with-count-spec : {M : Type 1} → statement M
 with-count-spec =

@@ -17,7 +17,12 @@ emptied-requires : tie.Need-emptied-requires
 emptied-requires c κs = search needs
 
 returns : tie.Need-returns
-returns c = grid-begun (c .before .before .before .before .args .grid) (c .before .before .before .before .pre) (c .before .before .before .before .args .ledger) (c .before .before .before .zero-counts .result) (c .before .before .zero-angles .result) (c .before .unit-cosines .result) (c .emptied .result) (c .before .before .before .zero-counts .ensures) (c .before .before .zero-angles .ensures) (c .before .unit-cosines .ensures) (c .emptied .ensures)
+returns c =
+    let start = c .before .before .before .before in
+    let zero-counts = c .before .before .before .zero-counts in
+    let zero-angles = c .before .before .zero-angles in
+    grid-begun (start .args .grid) (start .pre) (start .args .ledger) (zero-counts .result) (zero-angles .result) (c .before .unit-cosines .result)
+    (c .emptied .result) (zero-counts .ensures) (zero-angles .ensures) (c .before .unit-cosines .ensures) (c .emptied .ensures)
 
 pub with-grid-spec : {M : Type 1} → statement M
 with-grid-spec =

@@ -20,10 +20,20 @@ refuse-requires : tie.Need-refuse-requires
 refuse-requires c κs = search needs
 
 returns : tie.Need-returns
-returns c = step-applied (c .before .before .before .before .before .before .before .before .args .bytes .now) (c .before .before .before .before .before .before .before .before .args .at) (c .before .before .before .before .before .before .before .before .args .state) (c .before .before .before .before .before .before .decode .result) (c .before .before .before .before .before .before .decode .ensures) (c .before .before .apply .result) _ _ (c .before .before .before .before .command .given .1) (c .before .before .apply .ensures)
+returns c =
+    let start = c .before .before .before .before .before .before .before .before in
+    let decode = c .before .before .before .before .before .before .decode in
+    let apply = c .before .before .apply in
+    step-applied (start .args .bytes .now) (start .args .at) (start .args .state) (decode .result) (decode .ensures) (apply .result) _ _
+    (c .before .before .before .before .command .given .1) (apply .ensures)
 
 returns-2 : tie.Need-returns-2
-returns-2 c = step-malformed (c .before .before .before .before .before .before .before .args .bytes .now) (c .before .before .before .before .before .before .before .args .at) (c .before .before .before .before .before .before .before .args .state) (c .before .before .before .before .before .decode .result) (c .before .before .before .before .before .decode .ensures) (c .before .before .refuse .result) (c .before .before .before .before .before .before .before .args .at) (c .before .before .before .enum-told .given .1) (c .before .before .refuse .ensures)
+returns-2 c =
+    let start = c .before .before .before .before .before .before .before in
+    let decode = c .before .before .before .before .before .decode in
+    let refuse = c .before .before .refuse in
+    step-malformed (start .args .bytes .now) (start .args .at) (start .args .state) (decode .result) (decode .ensures) (refuse .result)
+    (start .args .at) (c .before .before .before .enum-told .given .1) (refuse .ensures)
 
 pub step-spec : {M : Type 1} → statement M
 step-spec =

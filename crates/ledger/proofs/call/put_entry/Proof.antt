@@ -10,14 +10,22 @@ put-refusal-requires c κs = search needs
 
 returns : tie.Need-returns
 unfolding putAnswer
-returns c = call-refused (c .before .before .args .grid) (c .before .before .args .ledger) (c .before .before .args .entry) (c .before .put-refusal .result) (c .before .put-refusal .ensures) (c .if1 .taken)
+returns c =
+    let start = c .before .before in
+    call-refused (start .args .grid) (start .args .ledger) (start .args .entry) (c .before .put-refusal .result) (c .before .put-refusal .ensures)
+    (c .if1 .taken)
 
 put-requires : tie.Need-put-requires
-put-requires c κs = put-room (c .before .before .args .grid) (c .before .before .args .ledger) (c .before .before .args .entry) (no-number (c .before .put-refusal .ensures) (c .if1 .left))
+put-requires c κs =
+    let start = c .before .before in
+    put-room (start .args .grid) (start .args .ledger) (start .args .entry) (no-number (c .before .put-refusal .ensures) (c .if1 .left))
 
 returns-2 : tie.Need-returns-2
 unfolding putAnswer
-returns-2 c = call-done (c .before .before .before .args .grid) (c .before .before .before .args .ledger) (c .before .before .before .args .entry) (c .put .result) (no-number (c .before .before .put-refusal .ensures) (c .before .if1 .left)) (c .put .ensures)
+returns-2 c =
+    let start = c .before .before .before in
+    call-done (start .args .grid) (start .args .ledger) (start .args .entry) (c .put .result)
+    (no-number (c .before .before .put-refusal .ensures) (c .before .if1 .left)) (c .put .ensures)
 
 pub put-entry-spec : {M : Type 1} → statement M
 put-entry-spec = tie.close (tie.spec put-refusal-requires returns put-requires returns-2)

@@ -18,11 +18,20 @@ on-grid-requires c κs = search needs
 
 returns-2 : tie.Need-returns-2
 unfolding entryInBounds
-returns-2 c = rw (sym (c .before .before .before .before .before .before .below-ceiling .ensures) ∙ not-false _ (c .before .before .before .before .before .if1 .left), sym (c .before .on-grid .ensures) ∙ not-true _ (c .if2 .taken))
+returns-2 c =
+    let below-ceiling = c .before .before .before .before .before .before .below-ceiling in
+    rw (
+      sym (below-ceiling .ensures) ∙ not-false _ (c .before .before .before .before .before .if1 .left),
+      sym (c .before .on-grid .ensures) ∙
+          not-true _ (c .if2 .taken),
+    )
 
 returns-3 : tie.Need-returns-3
 unfolding entryInBounds
-returns-3 c = rw (sym (c .before .before .before .before .before .before .before .below-ceiling .ensures) ∙ not-false _ (c .before .before .before .before .before .before .if1 .left), sym (c .before .before .on-grid .ensures) ∙ not-false _ (c .before .if2 .left))
+returns-3 c =
+    let below-ceiling = c .before .before .before .before .before .before .before .below-ceiling in
+    let if1 = c .before .before .before .before .before .before .if1 in
+    rw (sym (below-ceiling .ensures) ∙ not-false _ (if1 .left), sym (c .before .before .on-grid .ensures) ∙ not-false _ (c .before .if2 .left))
 
 pub entry-in-bounds-spec : {M : Type 1} → statement M
 entry-in-bounds-spec =

@@ -23,12 +23,15 @@ counted-requires : tie.Need-counted-requires Inv-loop μ-loop
 counted-requires c κs = search needs
 
 returns : tie.Need-returns Inv-loop μ-loop
-returns c = sym (order-beyond (c .before .before .args .grid) (c .before .before .args .t2) (sym (c .before .counted .ensures) ∙ not-true _ (c .if1 .taken)))
+returns c =
+    let start = c .before .before in
+    sym (order-beyond (start .args .grid) (start .args .t2) (sym (c .before .counted .ensures) ∙ not-true _ (c .if1 .taken)))
 
 loop-holds : tie.Need-loop-holds Inv-loop μ-loop
 loop-holds c =
+    let start = c .before .before in
     let fits = sym (c .before .counted .ensures) ∙ not-false _ (c .if1 .left) in
-    (omega arith, leb-true _ _ fits, order-counted (c .before .before .args .grid) (c .before .before .args .t2) fits)
+    (omega arith, leb-true _ _ fits, order-counted (start .args .grid) (start .args .t2) fits)
 
 mul-entry : tie.Need-mul-entry Inv-loop μ-loop
 mul-entry c = search needs
@@ -41,14 +44,21 @@ follows-requires c κs = search needs
 
 returns-2 : tie.Need-returns-2 Inv-loop μ-loop
 returns-2 c =
+    let loop = c .before .before .before .before .loop in
     let l = c .before .before .before .before .before .before .before .args .t2 in
     let whole = places-whole l _ (c .before .before .before .before .before .before .before .good .1 .0) in
-    let inside : c .before .before .before .before .loop .i < min (l .len) capacity = rw (min-eq-left (c .before .before .before .before .loop .inv .1)) (c .before .before .before .loop-test .taken) in
-    sym (c .before .before .before .before .loop .inv .2 ∙ order-stop l (c .before .before .before .before .loop .i) _ inside whole (c .before .before .before .before .before .before .before .args .grid) (c .before .before .before .before .loop .least) (sym (c .before .follows .ensures) ∙ not-true _ (c .if2 .taken)))
+    let inside : loop .i < min (l .len) capacity = rw (min-eq-left (loop .inv .1)) (c .before .before .before .loop-test .taken) in
+    sym (loop .inv .2 ∙ order-stop l (loop .i) _ inside whole (c .before .before .before .before .before .before .before .args .grid) (loop .least)
+    (sym (c .before .follows .ensures) ∙ not-true _ (c .if2 .taken)))
 
 add-least : tie.Need-add-least Inv-loop μ-loop
 unfolding ceiling
-add-least c = omega (arith, km-below _ (c .before .before .before .before .before .loop .least) _ (sym (c .before .before .follows .ensures) ∙ not-false _ (c .before .if2 .left)))
+add-least c =
+    omega (
+      arith,
+      km-below _ (c .before .before .before .before .before .loop .least) _
+          (sym (c .before .before .follows .ensures) ∙ not-false _ (c .before .if2 .left)),
+    )
 
 add-i : tie.Need-add-i Inv-loop μ-loop
 add-i c = search needs
@@ -58,10 +68,16 @@ loop-less c = search needs
 
 loop-again : tie.Need-loop-again Inv-loop μ-loop
 loop-again c =
+    let loop = c .before .before .before .before .before .loop in
     let l = c .before .before .before .before .before .before .before .before .args .t2 in
     let whole = places-whole l _ (c .before .before .before .before .before .before .before .before .good .1 .0) in
-    let inside : c .before .before .before .before .before .loop .i < min (l .len) capacity = rw (min-eq-left (c .before .before .before .before .before .loop .inv .1)) (c .before .before .before .before .loop-test .taken) in
-    (omega arith, c .before .before .before .before .before .loop .inv .1, c .before .before .before .before .before .loop .inv .2 ∙ order-next l (c .before .before .before .before .before .loop .i) _ inside whole (c .before .before .before .before .before .before .before .before .args .grid) (c .before .before .before .before .before .loop .least) (sym (c .before .before .follows .ensures) ∙ not-false _ (c .before .if2 .left)))
+    let inside : loop .i < min (l .len) capacity = rw (min-eq-left (loop .inv .1)) (c .before .before .before .before .loop-test .taken) in (
+      omega arith,
+      loop .inv .1,
+      loop .inv .2 ∙ order-next l (loop .i) _ inside whole
+          (c .before .before .before .before .before .before .before .before .args .grid) (loop .least)
+          (sym (c .before .before .follows .ensures) ∙ not-false _ (c .before .if2 .left)),
+    )
 
 returns-3 : tie.Need-returns-3 Inv-loop μ-loop
 returns-3 c =

@@ -17,11 +17,15 @@ cells-requires c κs = search needs
 
 returns-2 : tie.Need-returns-2
 unfolding buffersFit
-returns-2 c = rw (← (c .before .before .before .sums-fit .ensures), not-false (c .before .before .before .sums-fit .result) (c .before .before .if1 .left), ← (c .before .cells .ensures), lt-leb _ _ (c .if2 .taken))
+returns-2 c =
+    let sums-fit = c .before .before .before .sums-fit in
+    rw (← (sums-fit .ensures), not-false (sums-fit .result) (c .before .before .if1 .left), ← (c .before .cells .ensures), lt-leb _ _ (c .if2 .taken))
 
 returns-3 : tie.Need-returns-3
 unfolding buffersFit
-returns-3 c = rw (← (c .before .before .before .sums-fit .ensures), not-false (c .before .before .before .sums-fit .result) (c .before .before .if1 .left), ← (c .before .cells .ensures), le-leb _ _ (c .if2 .left))
+returns-3 c =
+    let sums-fit = c .before .before .before .sums-fit in
+    rw (← (sums-fit .ensures), not-false (sums-fit .result) (c .before .before .if1 .left), ← (c .before .cells .ensures), le-leb _ _ (c .if2 .left))
 
 pub buffers-fit-spec : {M : Type 1} → statement M
 buffers-fit-spec =

@@ -1,5 +1,5 @@
 -- `search::call::held_or_north_west`: a case for each way of holding.
-use Rattle.search.specs.Candidate.{northWest}
+use Rattle.candidates.specs.Candidate.{northWest}
 use Rattle.search.specs.Search.{heldOr}
 use borrow.Author.Needs.{needs}
 use Rattle.search.proofs.call.held_or_north_west.Statement.{statement}

@@ -50,7 +50,8 @@ fill-sums-requires c κs = to-fill (passed (c .before))
 search-at-requires : tie.Need-search-at-requires
 search-at-requires c κs =
     let e = c .before .before .before .before .before .before .before in
-    to-search (passed e) _ (c .before .before .before .before .before .fill-sums .ensures) (λ i. e .before .before .before .before .before .before .before .before .before .before .shared-slice-known .given i .fits)
+    to-search (passed e) _ (c .before .before .before .before .before .fill-sums .ensures)
+    (λ i. e .before .before .before .before .before .before .before .before .before .before .shared-slice-known .given i .fits)
 
 same-length-4 : tie.Need-same-length-4
 same-length-4 c = search needs
@@ -68,7 +69,8 @@ returns-2 c =
     let filled = c .before .before .before .before .before .before .before .before .before .before .fill-sums in
     let found = c .before .before .before .before .search-at in
     search-answered _ _ _ _ (found .result) _ _ _ (sym (e .before .search-refusal .ensures) ∙ e .if1 .left)
-    (found .ensures ∙ searched-map (passed e) _ (filled .ensures)) (sums-filled (passed e) _ (filled .ensures)) (found .kept .1 .1 .1 .1 .0) (found .kept .1 .1 .1 .1 .1 .0)
+    (found .ensures ∙ searched-map (passed e) _ (filled .ensures)) (sums-filled (passed e) _ (filled .ensures)) (found .kept .1 .1 .1 .1 .0)
+    (found .kept .1 .1 .1 .1 .1 .0)
 
 pub most-populous-spec : {M : Type 1} → statement M
 most-populous-spec =

@@ -14,7 +14,8 @@ answer-of-requires c κs = search needs
 returns : tie.Need-returns
 returns c =
     let a = c .before .before .before .before .before .before .before .before .args in
-    c .answer-of .ensures ∙ search-none _ (a .spacing) (a .km) (c .before .nothing .result) (c .before .before .if1 .taken) (c .before .nothing .ensures)
+    c .answer-of .ensures ∙ search-none _ (a .spacing) (a .km) (c .before .nothing .result) (c .before .before .if1 .taken)
+    (c .before .nothing .ensures)
 
 int-to-float-radius : tie.Need-int-to-float-radius
 int-to-float-radius c = search needs
@@ -36,8 +37,12 @@ same-length-2 c = search needs
 
 returns-2 : tie.Need-returns-2
 returns-2 c =
+    let if1 = c .before .before .before .before .before .before .before .before .before .before .if1 in
+    let spacing-of = c .before .before .before .before .before .before .before .before .spacing-of in
+    let searched = c .before .before .before .before .before .searched in
     let a = c .before .before .before .before .before .before .before .before .before .before .before .before .before .before .before .before .args in
-    c .answer-of2 .ensures ∙ search-found _ (a .spacing) (a .km) (c .before .before .before .before .before .before .before .before .spacing-of .result) (c .before .before .before .before .before .searched .result) (c .before .before .before .before .before .before .before .before .before .before .if1 .left) (c .before .before .before .before .before .before .before .before .spacing-of .ensures) (c .before .before .before .before .before .searched .ensures)
+    c .answer-of2 .ensures ∙ search-found _ (a .spacing) (a .km) (spacing-of .result) (searched .result) (if1 .left) (spacing-of .ensures)
+    (searched .ensures)
 
 pub search-at-spec : {M : Type 1} → statement M
 search-at-spec =

@@ -11,8 +11,9 @@ tile-requires c κs =
 
 insert-from-requires : tie.Need-insert-from-requires
 insert-from-requires c κs =
+    let tile = c .before .before .before .before .tile in
     let st = c .before .before .before .before .before .before .before .before in
-    first-takes _ _ _ _ (st .pre) (c .before .before .before .before .tile .result) _ (c .before .before .before .before .tile .ensures)
+    first-takes _ _ _ _ (st .pre) (tile .result) _ (tile .ensures)
 
 same-length : tie.Need-same-length
 same-length c = search needs
@@ -22,8 +23,9 @@ same-length-2 c = search needs
 
 returns : tie.Need-returns
 returns c =
+    let tile = c .before .before .before .before .before .before .before .tile in
     let st = c .before .before .before .before .before .before .before .before .before .before .before in
-    first-is _ _ _ _ (st .pre) (c .before .before .before .before .before .before .before .tile .result) _ (c .before .before .before .before .before .before .before .tile .ensures) _ (c .before .before .insert-from .ensures)
+    first-is _ _ _ _ (st .pre) (tile .result) _ (tile .ensures) _ (c .before .before .insert-from .ensures)
 
 pub first-level-spec : {M : Type 1} → statement M
 first-level-spec =

@@ -1,6 +1,6 @@
 -- `search::descend::nothing`: nothing held, every count 0.
 use mathlib.Core.Path.{refl}
-use Rattle.search.specs.Level.{noTally, noStats}
+use Rattle.levels.specs.Level.{noTally, noStats}
 use Rattle.search.proofs.descend.nothing.Statement.{statement}
 use Rattle.search.proofs.descend.nothing.Tie as tie
 

@@ -24,7 +24,8 @@ loop-holds c =
     let st = c .before .before .before .before .before .before .before .before .before .before .before .before .before in
     let f = c .before .before .before .before .before .first-level in
     rw (c .nothing .ensures)
-    (descend-start _ _ _ _ _ _ _ _ (st .pre .0) (omega (arith, st .pre .1 .near-room, f .kept)) (omega (arith, st .pre .1 .far-room, f .kept)) (f .result) (f .ensures))
+    (descend-start _ _ _ _ _ _ _ _ (st .pre .0) (omega (arith, st .pre .1 .near-room, f .kept)) (omega (arith, st .pre .1 .far-room, f .kept))
+    (f .result) (f .ensures))
 
 level-requires : tie.Need-level-requires Inv-loop μ-loop
 level-requires c κs =
@@ -39,29 +40,41 @@ level-requires c κs =
 
 with-level-requires : tie.Need-with-level-requires Inv-loop μ-loop
 with-level-requires c κs =
+    let level = c .before .before .level in
     let st = c .before .before .before .before .before .before .before .before .before .before .before .before .before .before .before .before .before .before .before .before in
     let l = c .before .before .before .before .before .before .loop in
-    descend-light _ _ _ _ _ _ _ _ (st .pre .0) (l .near) (l .far) (l .live) (l .found) (l .inv) (c .before .before .before .before .before .loop-test .taken) (c .before .before .level .result) _ (c .before .before .level .ensures)
+    descend-light _ _ _ _ _ _ _ _ (st .pre .0) (l .near) (l .far) (l .live) (l .found) (l .inv)
+    (c .before .before .before .before .before .loop-test .taken) (level .result) _ (level .ensures)
 
 insert-from-requires : tie.Need-insert-from-requires Inv-loop μ-loop
 insert-from-requires c κs =
+    let loop-test = c .before .before .before .before .before .before .before .before .loop-test in
+    let level = c .before .before .before .before .before .level in
     let st = c .before .before .before .before .before .before .before .before .before .before .before .before .before .before .before .before .before .before .before .before .before .before .before in
     let l = c .before .before .before .before .before .before .before .before .before .loop in
-    descend-takes _ _ _ _ _ _ _ _ (st .pre .0) (l .near) (l .far) (l .live) (l .found) (l .inv) (c .before .before .before .before .before .before .before .before .loop-test .taken) (c .before .before .before .before .before .level .result) _ (c .before .before .before .before .before .level .ensures) (c .before .before .before .before .before .level .kept .1 .1 .1 .1 .1 .1 .1 .1 .0)
+    descend-takes _ _ _ _ _ _ _ _ (st .pre .0) (l .near) (l .far) (l .live) (l .found) (l .inv) (loop-test .taken) (level .result) _ (level .ensures)
+    (level .kept .1 .1 .1 .1 .1 .1 .1 .1 .0)
 
 loop-less : tie.Need-loop-less Inv-loop μ-loop
 loop-less c =
+    let loop-test = c .before .before .before .before .before .before .before .before .before .before .before .loop-test in
+    let level = c .before .before .before .before .before .before .before .before .level in
     let st = c .before .before .before .before .before .before .before .before .before .before .before .before .before .before .before .before .before .before .before .before .before .before .before .before .before .before in
     let l = c .before .before .before .before .before .before .before .before .before .before .before .before .loop in
     rw (c .before .before .before .before .before .with-level .ensures)
-    (descend-less _ _ _ _ _ _ _ _ (st .pre .0) (l .near) (l .far) (l .live) (l .found) (l .inv) (c .before .before .before .before .before .before .before .before .before .before .before .loop-test .taken) (c .before .before .before .before .before .before .before .before .level .result) _ (c .before .before .before .before .before .before .before .before .level .ensures) (c .before .before .before .before .before .before .before .before .level .kept .1 .1 .1 .1 .1 .1 .1 .1 .0))
+    (descend-less _ _ _ _ _ _ _ _ (st .pre .0) (l .near) (l .far) (l .live) (l .found) (l .inv) (loop-test .taken) (level .result) _ (level .ensures)
+    (level .kept .1 .1 .1 .1 .1 .1 .1 .1 .0))
 
 loop-again : tie.Need-loop-again Inv-loop μ-loop
 loop-again c =
+    let loop-test = c .before .before .before .before .before .before .before .before .before .before .before .loop-test in
+    let level = c .before .before .before .before .before .before .before .before .level in
+    let insert-from = c .before .before .insert-from in
     let st = c .before .before .before .before .before .before .before .before .before .before .before .before .before .before .before .before .before .before .before .before .before .before .before .before .before .before in
     let l = c .before .before .before .before .before .before .before .before .before .before .before .before .loop in
     rw (c .before .before .before .before .before .with-level .ensures)
-    (descend-next _ _ _ _ _ _ _ _ (st .pre .0) (l .near) (l .far) (l .live) (l .found) (l .inv) (c .before .before .before .before .before .before .before .before .before .before .before .loop-test .taken) (c .before .before .before .before .before .before .before .before .level .result) _ (c .before .before .before .before .before .before .before .before .level .ensures) (c .before .before .before .before .before .before .before .before .level .kept .1 .1 .1 .1 .1 .1 .1 .1 .0) _ (c .before .before .insert-from .kept .1 .1 .0) (c .before .before .insert-from .ensures))
+    (descend-next _ _ _ _ _ _ _ _ (st .pre .0) (l .near) (l .far) (l .live) (l .found) (l .inv) (loop-test .taken) (level .result) _ (level .ensures)
+    (level .kept .1 .1 .1 .1 .1 .1 .1 .1 .0) _ (insert-from .kept .1 .1 .0) (insert-from .ensures))
 
 same-length : tie.Need-same-length Inv-loop μ-loop
 same-length c = c .before .loop .inv .near-size ∙ c .before .before .before .before .before .before .before .first-level .kept .1 .1 .0

@@ -30,11 +30,12 @@ run-requires c κs =
 
 conclude-requires : tie.Need-conclude-requires
 conclude-requires c κs =
+    let run = c .before .before .before .before .before .before .run in
     let st = c .before .before .before .before .before .before .before .before .before .before .before .before .before .before .before .before .before in
     let total = c .before .before .before .before .before .before .before .before .before .before .before .total in
     let target = c .before .before .before .before .before .before .before .before .before .before .target-of in
     let slack = c .before .before .before .before .before .before .before .before .before .predicate-slack-persons in
-    can-conclude (can st) (st .args .spacing) (total .ensures) (target .ensures) (slack .ensures) (c .before .before .before .before .before .before .run .ensures)
+    can-conclude (can st) (st .args .spacing) (total .ensures) (target .ensures) (slack .ensures) (run .ensures)
 
 same-length : tie.Need-same-length
 same-length c = search needs
@@ -44,11 +45,12 @@ same-length-2 c = search needs
 
 returns : tie.Need-returns
 returns c =
+    let run = c .before .before .before .before .before .before .before .before .run in
     let st = c .before .before .before .before .before .before .before .before .before .before .before .before .before .before .before .before .before .before .before in
     let total = c .before .before .before .before .before .before .before .before .before .before .before .before .before .total in
     let target = c .before .before .before .before .before .before .before .before .before .before .before .before .target-of in
     let slack = c .before .before .before .before .before .before .before .before .before .before .before .predicate-slack-persons in
-    is-settled (can st) (st .args .spacing) (total .ensures) (target .ensures) (slack .ensures) (c .before .before .before .before .before .before .before .before .run .ensures) (c .before .conclude .ensures)
+    is-settled (can st) (st .args .spacing) (total .ensures) (target .ensures) (slack .ensures) (run .ensures) (c .before .conclude .ensures)
 
 pub settle-spec : {M : Type 1} → statement M
 settle-spec =

@@ -57,7 +57,9 @@ fill-sums-requires c κs =
 
 settle-requires : tie.Need-settle-requires
 settle-requires c κs =
-    to-settle (passed (c .before .before .before .before .before .before .before)) _ (c .before .before .before .before .before .fill-sums .ensures) (λ i. c .before .before .before .before .before .before .before .before .before .before .before .before .before .before .before .before .before .shared-slice-known .given i .fits)
+    let shared-slice-known = c .before .before .before .before .before .before .before .before .before .before .before .before .before .before .before .before .before .shared-slice-known in
+    let then = c .before .before .before .before .before .before .before in
+    to-settle (passed then) _ (c .before .before .before .before .before .fill-sums .ensures) (λ i. shared-slice-known .given i .fits)
 
 same-length-4 : tie.Need-same-length-4
 same-length-4 c = search needs
@@ -70,9 +72,10 @@ same-length-6 c = search needs
 
 returns-2 : tie.Need-returns-2
 returns-2 c =
+    let settle = c .before .before .before .before .settle in
     let e = c .before .before .before .before .before .before .before .before .before .before .before .before in
     let filled = c .before .before .before .before .before .before .before .before .before .before .fill-sums in
-    smallest-answered _ _ _ _ _ (c .before .before .before .before .settle .result) _ _ _ (asked-none e) (settled-map (passed e) _ (filled .ensures) (c .before .before .before .before .settle .ensures))
+    smallest-answered _ _ _ _ _ (settle .result) _ _ _ (asked-none e) (settled-map (passed e) _ (filled .ensures) (settle .ensures))
     (sums-filled (passed e) _ (filled .ensures)) (search needs) (search needs)
 
 pub smallest-radius-spec : {M : Type 1} → statement M

@@ -43,7 +43,8 @@ own-refusal-requires c κs = search needs
 returns-3 : tie.Need-returns-3
 returns-3 c =
     let asked = c .before .before .buffers-fit in
-    refused-own _ _ _ _ _ (passed (c .before .before .before)) (sym (asked .ensures) ∙ not-false (asked .result) (c .before .if2 .left)) (c .own-refusal .result) (c .own-refusal .ensures)
+    refused-own _ _ _ _ _ (passed (c .before .before .before)) (sym (asked .ensures) ∙ not-false (asked .result) (c .before .if2 .left))
+    (c .own-refusal .result) (c .own-refusal .ensures)
 
 pub smallest-refusal-spec : {M : Type 1} → statement M
 smallest-refusal-spec =

@@ -25,10 +25,13 @@ search-at-requires c κs = search needs
 
 evaluated-requires : tie.Need-evaluated-requires
 evaluated-requires c κs =
+    let get = c .before .before .before .before .before .before .before .before .before .get in
+    let the-enum-told = c .before .before .before .before .before .before .before .enum-told in
     let st = c .before .before .before .before .before .before .before .before .before .before .before .before .before .before .before .before in
     let a = st .args in
     let sound = ready-sound (a .grid) (now (a .angles)) (now (a .cosines)) (now (a .sums)) (st .pre .search .ready) (a .spacing) (a .km) in
-    can-evaluate _ (st .pre .order) (st .pre .few) (rw (c .before .before .before .before .search-at .ensures) sound) (sym (c .before .before .before .before .before .before .before .before .before .get .ensures) ∙ c .before .before .before .before .before .before .before .enum-told .given .1)
+    can-evaluate _ (st .pre .order) (st .pre .few) (rw (c .before .before .before .before .search-at .ensures) sound)
+    (sym (get .ensures) ∙ the-enum-told .given .1)
 
 returns : tie.Need-returns
 returns c =
@@ -42,7 +45,10 @@ same-length-2 c = search needs
 
 returns-2 : tie.Need-returns-2
 returns-2 c =
-    after-search _ _ _ _ _ _ (sym (c .before .before .before .before .before .before .before .before .before .before .get .ensures) ∙ c .before .before .before .before .before .before .before .before .enum-told .given .1) (c .before .before .before .before .before .search-at .ensures) (c .evaluated .ensures)
+    let get = c .before .before .before .before .before .before .before .before .before .before .get in
+    let the-enum-told = c .before .before .before .before .before .before .before .before .enum-told in
+    after-search _ _ _ _ _ _ (sym (get .ensures) ∙ the-enum-told .given .1) (c .before .before .before .before .before .search-at .ensures)
+    (c .evaluated .ensures)
 
 pub probe-spec : {M : Type 1} → statement M
 probe-spec =

@@ -9,7 +9,7 @@ use borrow.Author.Tests.{not-true, not-false}
 use Rattle.grid.specs.Grid.{ceiling}
 use Rattle.smallest.specs.Call.{mostRadii}
 use Rattle.smallest.specs.State.{probesOf}
-use Rattle.search.specs.Work.{mapOf}
+use Rattle.levels.specs.Work.{mapOf}
 use Rattle.smallest.proofs.RunLoop.{Running, loop-starts, loop-probes, loop-fits, loop-goes-on, loop-falls, loop-ends}
 use Rattle.smallest.proofs.run.run.Statement.{statement}
 use Rattle.smallest.proofs.run.run.Tie as tie
@@ -67,12 +67,15 @@ next-requires c κs =
 loop-less : tie.Need-loop-less Inv-loop μ-loop
 unfolding ceiling
 loop-less c =
+    let probe = c .before .before .before .before .before .probe in
     let st = c .before .before .before .before .before .before .before .before .before .before .before .before .before .before .before .before .before .before .before in
     let begun = c .before .before .before .before .before .before .before .before .before .before .before .before .before .begun in
     let at = c .before .before .before .before .before .before .before .before .before .before .before .loop in
-    let opened = sym (c .before .before .before .before .before .before .before .before .before .before .closed .ensures) ∙ not-true _ (c .before .before .before .before .before .before .before .before .before .if1 .taken) in
-    let more = loop-goes-on (can st) (st .args .spacing) (begun .ensures) (at .inv .0) opened (c .before .before .before .before .before .before .before .before .radius .ensures) refl (c .before .before .before .before .before .probe .ensures) (c .next .ensures) in
-    loop-falls (can st) (st .args .spacing) (begun .ensures) (at .inv .0) opened (c .before .before .before .before .before .probe .result) (more .1)
+    let opened = sym (c .before .before .before .before .before .before .before .before .before .before .closed .ensures) ∙ not-true _
+    (c .before .before .before .before .before .before .before .before .before .if1 .taken) in
+    let more = loop-goes-on (can st) (st .args .spacing) (begun .ensures) (at .inv .0) opened
+    (c .before .before .before .before .before .before .before .before .radius .ensures) refl (probe .ensures) (c .next .ensures) in
+    loop-falls (can st) (st .args .spacing) (begun .ensures) (at .inv .0) opened (probe .result) (more .1)
 
 loop-again : tie.Need-loop-again Inv-loop μ-loop
 unfolding ceiling
@@ -93,7 +96,8 @@ same-length-2 c = search needs
 returns : tie.Need-returns Inv-loop μ-loop
 returns c =
     let st = c .before .before .before .before .before .before .before .before .before .before in
-    loop-ends (can st) (st .args .spacing) (c .before .before .before .before .begun .ensures) (c .before .before .loop .inv .0) (sym (c .before .closed .ensures) ∙ not-false _ (c .if1 .left))
+    loop-ends (can st) (st .args .spacing) (c .before .before .before .before .begun .ensures) (c .before .before .loop .inv .0)
+    (sym (c .before .closed .ensures) ∙ not-false _ (c .if1 .left))
 
 pub run-spec : {M : Type 1} → statement M
 run-spec =

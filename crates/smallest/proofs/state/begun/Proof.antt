@@ -1,8 +1,8 @@
 -- The code is the definition.
 use mathlib.Core.Path.{refl}
 use Rattle.smallest.specs.State.{begun}
-use Rattle.search.specs.Candidate.{northWest}
-use Rattle.search.specs.Level.{noStats}
+use Rattle.candidates.specs.Candidate.{northWest}
+use Rattle.levels.specs.Level.{noStats}
 use Rattle.smallest.proofs.state.begun.Statement.{statement}
 use Rattle.smallest.proofs.state.begun.Tie as tie
 

@@ -21,7 +21,14 @@ ambiguity-after-requires c κs = search needs
 
 returns : tie.Need-returns
 unfolding noted
-returns c = rw (c .ambiguity-after .ensures, c .before .within-slack .ensures, c .before .before .short-after .ensures, c .before .before .before .found-after .ensures, c .before .before .before .before .reaches .ensures)
+returns c =
+    rw (
+      c .ambiguity-after .ensures,
+      c .before .within-slack .ensures,
+      c .before .before .short-after .ensures,
+      c .before .before .before .found-after .ensures,
+      c .before .before .before .before .reaches .ensures,
+    )
 
 pub noted-spec : {M : Type 1} → statement M
 noted-spec =

@@ -1,0 +1,77 @@
+-- The code is the definition, operation for operation.
+use borrow.Author.Needs.{needs}
+use Rattle.bounds.specs.Spacing.{extentFits}
+use Rattle.bounds.proofs.side.extent_fits.Statement.{statement}
+use Rattle.bounds.proofs.side.extent_fits.Tie as tie
+
+latitude-extent-requires : tie.Need-latitude-extent-requires
+latitude-extent-requires c κs = search needs
+
+next-up-requires : tie.Need-next-up-requires
+next-up-requires c κs = search needs
+
+longitude-extent-requires : tie.Need-longitude-extent-requires
+longitude-extent-requires c κs = search needs
+
+next-up-requires-2 : tie.Need-next-up-requires-2
+next-up-requires-2 c κs = search needs
+
+next-up-requires-3 : tie.Need-next-up-requires-3
+next-up-requires-3 c κs = search needs
+
+arc-km-requires : tie.Need-arc-km-requires
+arc-km-requires c κs = search needs
+
+next-up-requires-4 : tie.Need-next-up-requires-4
+next-up-requires-4 c κs = search needs
+
+slack-margin-requires : tie.Need-slack-margin-requires
+slack-margin-requires c κs = search needs
+
+next-up-requires-5 : tie.Need-next-up-requires-5
+next-up-requires-5 c κs = search needs
+
+widened-by-requires : tie.Need-widened-by-requires
+widened-by-requires c κs = search needs
+
+next-up-requires-6 : tie.Need-next-up-requires-6
+next-up-requires-6 c κs = search needs
+
+arc-km-requires-2 : tie.Need-arc-km-requires-2
+arc-km-requires-2 c κs = search needs
+
+returns : tie.Need-returns
+unfolding extentFits
+returns c =
+    simp (
+      c .arc-km2 .ensures,
+      c .before .next-up6 .ensures,
+      c .before .before .widened-by .ensures,
+      c .before .before .before .next-up5 .ensures,
+      c .before .before .before .before .slack-margin .ensures,
+      c .before .before .before .before .before .next-up4 .ensures,
+      c .before .before .before .before .before .before .arc-km .ensures,
+      c .before .before .before .before .before .before .before .next-up3 .ensures,
+      c .before .before .before .before .before .before .before .before .next-up2 .ensures,
+      c .before .before .before .before .before .before .before .before .before .longitude-extent .ensures,
+      c .before .before .before .before .before .before .before .before .before .before .next-up .ensures,
+      c .before .before .before .before .before .before .before .before .before .before .before .latitude-extent .ensures,
+    )
+
+pub extent-fits-spec : {M : Type 1} → statement M
+extent-fits-spec =
+    tie.close
+    (tie.spec
+    latitude-extent-requires
+    next-up-requires
+    longitude-extent-requires
+    next-up-requires-2
+    next-up-requires-3
+    arc-km-requires
+    next-up-requires-4
+    slack-margin-requires
+    next-up-requires-5
+    widened-by-requires
+    next-up-requires-6
+    arc-km-requires-2
+    returns)

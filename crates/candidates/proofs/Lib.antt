@@ -1,0 +1,2 @@
+-- The order of candidates.
+pub mod Order

@@ -1,0 +1,48 @@
+-- Candidates: a centre with the population of its circle, and which of two is better.
+use Prim.Native.Nat.{ℕ}
+use mathlib.Core.Bool.{Bool, false, cond}
+use lib.Ieee.{Float}
+use lib.Dec.{ltb}
+use Rattle.grid.specs.declared.Cell.{Cell}
+use Rattle.grid.specs.Grid.{cell, before}
+use Rattle.grid.specs.Map.{Map}
+use Rattle.kernel.specs.Circle.{population}
+use Rattle.candidates.specs.declared.Candidate.{Candidate}
+use Rattle.candidates.specs.declared.Held.{Held}
+use Rattle.candidates.specs.declared.Held.the-variants.{Nobody, Best}
+
+abbrev pub candidateOf : Cell → ℕ → Candidate
+candidateOf x people = record { row = x .row; col = x .col; population = people }
+
+abbrev pub centreOf : Candidate → Cell
+centreOf c = record { row = c .row; col = c .col }
+
+-- a cell with the population of its circle
+unfoldable pub candidate : Map → Float → Cell → Candidate
+candidate m km x = candidateOf x (population m km x)
+
+-- the cell (0, 0)
+unfoldable pub northWest : ℕ → Candidate
+northWest people = candidateOf (cell 0 0) people
+
+-- more people win; of as many, the first by row, then column
+unfoldable pub better : Candidate → Candidate → Candidate
+better c d =
+    let tied = cond (before (centreOf d) (centreOf c)) d c in
+    let least = cond (ltb (d .population) (c .population)) c tied in
+    cond (ltb (c .population) (d .population)) d least
+
+unfoldable pub betterHeld : Held → Held → Held
+betterHeld Nobody h = h
+betterHeld (Best c) Nobody = Best c
+betterHeld (Best c) (Best d) = Best (better c d)
+
+-- a bound is below the held population, so its block is pruned; an equal one lives
+unfoldable pub prunes : ℕ → Held → Bool
+prunes bound Nobody = false
+prunes bound (Best c) = ltb bound (c .population)
+
+-- opens all of the above, for facts that are computed
+unfoldable pub candidates : Unit {0}
+unfolding candidate northWest better betterHeld prunes
+candidates = tt

@@ -1,0 +1,3 @@
+pub mod Radii
+pub mod Climb
+pub mod NextRadii

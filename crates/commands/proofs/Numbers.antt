@@ -1,0 +1,74 @@
+-- Numbers of several bytes, by their halves; and the float of a NaN's pattern.
+use Prim.Native.Nat.{ℕ, suc, _+_, _*_, _≤_, _<_}
+use mathlib.Core.Path.{_≡_, refl, sym, _∙_, ap, subst}
+use mathlib.Core.Bool.{Bool, true, false, not}
+use mathlib.Core.List.{List, [], _∷_}
+use native.Mathlib.Omega.{arith}
+use native.Mathlib.Numerals.{add-one}
+use lib.Dec.{T}
+use lib.Ieee.{Float, nan, inf, fin, binary64, isNan, ofBits, nanBits}
+use lib.Ieee.Bits.{nanBits-is}
+use lib.ListN.{length, take, drop, getD}
+use Rattle.lists.proofs.Bools.{of-true}
+use lib.Seq.{drop-cons, drop-drop}
+use Rattle.commands.specs.Command.{little, number, float}
+
+module _ (bs : List ℕ) where
+  number-none : (p : ℕ) → number p 0 bs ≡ 0
+  unfolding number little
+  number-none p = refl
+
+  -- the byte at the place, and the number behind it
+  number-more : (p k : ℕ) → p < length bs → number p (suc k) bs ≡ getD bs p 0 + 256 * number (p + 1) k bs
+  unfolding number little
+  number-more p k h = rw (add-one p, drop-cons bs p 0 h)
+
+  pub number-one : (p : ℕ) → p < length bs → number p 1 bs ≡ getD bs p 0
+  number-one p h = omega (arith, number-more p 0 h, number-none (p + 1))
+
+  number-front : (p k : ℕ) → p < length bs → number p (suc k) bs ≡ number p 1 bs + 256 * number (p + 1) k bs
+  number-front p k h = omega (arith, number-more p k h, number-one p h)
+
+  pub number-two : (p : ℕ) → p + 2 ≤ length bs → number p 2 bs ≡ number p 1 bs + 256 * number (p + 1) 1 bs
+  number-two p h = number-front p 1 (omega arith)
+
+  number-pair : (p k : ℕ) → p + 2 ≤ length bs → number p (suc (suc k)) bs ≡ number p 2 bs + 65536 * number (p + 2) k bs
+  number-pair p k h =
+      let q : p + 1 + 1 ≡ p + 2 = omega arith in
+      let far : number (p + 1) (suc k) bs ≡ number (p + 1) 1 bs + 256 * number (p + 2) k bs
+      = number-front (p + 1) k (omega arith) ∙ ap (λ (n : ℕ). number (p + 1) 1 bs + 256 * number n k bs) q in
+      omega (arith, number-front p (suc k) (omega arith), far, number-two p h)
+
+  pub number-four : (p : ℕ) → p + 4 ≤ length bs → number p 4 bs ≡ number p 2 bs + 65536 * number (p + 2) 2 bs
+  number-four p h = number-pair p 2 (omega arith)
+
+  pub number-eight : (p : ℕ) → p + 8 ≤ length bs → number p 8 bs ≡ number p 4 bs + 4294967296 * number (p + 4) 4 bs
+  number-eight p h =
+      let q : p + 2 + 2 ≡ p + 4 = omega arith in
+      let far : number (p + 2) 6 bs ≡ number (p + 2) 2 bs + 65536 * number (p + 4) 4 bs
+      = number-pair (p + 2) 4 (omega arith) ∙ ap (λ (n : ℕ). number (p + 2) 2 bs + 65536 * number n 4 bs) q in
+      omega (arith, number-pair p 6 (omega arith), far, number-four p (omega arith))
+
+  pub number-here : (from k : ℕ) → number 0 k (drop from bs) ≡ number from k bs
+  unfolding number
+  number-here from k = refl
+
+  -- a place behind another
+  pub number-drop : (from p k : ℕ) → number p k (drop from bs) ≡ number (from + p) k bs
+  unfolding number
+  number-drop from p k = rw drop-drop
+
+  pub float-drop : (from p : ℕ) → float p (drop from bs) ≡ float (from + p) bs
+  unfolding float
+  float-drop from p = ap (ofBits binary64) (number-drop from p 8)
+
+-- ---- NaNs
+
+nan-only : (x : Float) → isNan x ≡ true → nan ≡ x
+unfolding isNan
+nan-only nan h = refl
+nan-only (inf s) h = absurd (of-true false h)
+nan-only (fin s m e) h = absurd (of-true false h)
+
+pub nan-of : (bits : ℕ) → nanBits binary64 bits ≡ true → nan ≡ ofBits binary64 bits
+nan-of bits h = nan-only (ofBits binary64 bits) (sym (nanBits-is binary64 bits) ∙ h)

@@ -1,0 +1,43 @@
+-- Decoding by its branches: a command with its operands, a cut one, and the letters in turn.
+use Prim.Native.Nat.{ℕ, suc, _+_, _-_, _≤_, _<_}
+use mathlib.Core.Path.{_≡_, refl, sym, _∙_, ap}
+use mathlib.Core.Bool.{Bool, true, false, cond}
+use mathlib.Core.List.{List, [], _∷_}
+use native.Mathlib.Omega.{arith}
+use native.Mathlib.Numerals.{add-one}
+use borrow.Author.Tests.{lt-ltb, le-ltb}
+use lib.Dec.{ltb}
+use lib.ListN.{length, drop, getD, length-drop, drop-of-length-le}
+use lib.Seq.{drop-cons, drop-drop}
+use Rattle.commands.specs.declared.Command.{Command}
+use Rattle.commands.specs.declared.Command.the-variants.{End}
+use Rattle.commands.specs.declared.Decoded.{Decoded}
+use Rattle.commands.specs.declared.Decoded.the-variants.{Read, Malformed}
+use Rattle.commands.specs.Command.{Decoding, command, malformed, withOperands, endOf, decodeAs, decode, decodedOf}
+
+module _ (bs : List ℕ) (from : ℕ) where
+  module _ (size : ℕ) (make : List ℕ → Command) where
+    pub operands-cut : length bs - from < size → decodedOf bs Malformed ≡ withOperands size make (drop from bs)
+    unfolding decodedOf withOperands
+    operands-cut h = rw (length-drop from bs, lt-ltb (length bs - from) size h)
+
+    pub operands-read : (c : Command) → size ≤ length bs - from → c ≡ make (drop from bs)
+        → decodedOf bs (Read c (from + size)) ≡ withOperands size make (drop from bs)
+    unfolding decodedOf withOperands
+    operands-read c h e = rw (length-drop from bs, le-ltb (length bs - from) size h, drop-drop size from bs, e)
+
+  pub end-followed : from < length bs → decodedOf bs Malformed ≡ endOf (drop from bs)
+  unfolding decodedOf endOf
+  end-followed h = rw (drop-cons bs from 0 h)
+
+  pub end-last : length bs ≤ from → decodedOf bs (Read End from) ≡ endOf (drop from bs)
+  unfolding decodedOf endOf
+  end-last h = rw (drop-of-length-le bs h)
+
+  pub decode-letter : from < length bs → decodeAs (getD bs from 0) (drop (from + 1) bs) ≡ decode (drop from bs)
+  unfolding decode
+  decode-letter h = rw (drop-cons bs from 0 h, add-one from)
+
+  pub decode-none : length bs ≤ from → decodedOf bs Malformed ≡ decode (drop from bs)
+  unfolding decodedOf decode
+  decode-none h = rw (drop-of-length-le bs h)

@@ -1,0 +1,107 @@
+-- The trace of a run as the climb sees it, whatever the map and the ledger: its probes are those of the climb, at most 28, at distinct kilometres.
+use Prim.Native.Nat.{ℕ, _≤_}
+use mathlib.Core.Path.{_≡_, refl, sym, ap, _∙_}
+use mathlib.Core.List.{List, [], _∷_}
+use native.Mathlib.Omega.{arith}
+use lib.ListN.{length}
+use lib.Ieee.{Float}
+use Rattle.lists.specs.Lists.{each}
+use Rattle.lists.proofs.Folds.{length-each}
+use Rattle.lists.proofs.Elements.{AnyOf, Distinct, any-of-each}
+use Rattle.grid.specs.Map.{Map}
+use Rattle.grid.proofs.Ceiling.{ceiling-least, ceiling-most}
+use Rattle.bounds.specs.declared.Spacing.{Spacing}
+use Rattle.candidates.specs.declared.Candidate.{Candidate}
+use Rattle.ledger.specs.declared.Got.{Got}
+use Rattle.ledger.specs.declared.Got.the-variants.{Circle, Nothing}
+use Rattle.ledger.specs.declared.Ledger.{Ledger}
+use Rattle.ledger.specs.Ledger.{get}
+use Rattle.climb.specs.Climb.{Ended, allShort, reachedAt, climbRadii}
+use Rattle.climb.proofs.Climb.{Finding, after, findings, Walked, Ends, run-ends}
+use Rattle.measure.specs.Target.{reaches}
+use Rattle.smallest.specs.Probes.{Probe, Run, reusedAt, searchedAt, probedWith, probed, latestOf, latest, targetPersons, smallestRun}
+use Rattle.demand.specs.Demand3.{traceOf}
+use Rattle.smallest.specs.Call.{mostRadii}
+use Rattle.smallest.proofs.States.{starting}
+use Rattle.smallest.proofs.RunLoop.{lastKm}
+
+abbrev pub findingOf : Probe → Finding Candidate
+findingOf p = record { km = p .km; found = p .centre }
+
+module _ (m : Map) (spacing : Spacing) where
+  -- a probe is added with its kilometre and what it found
+  probed-adds : (r : Run) (km : ℕ) → each findingOf (probed m spacing r km .trace) ≡ record { km = km; found = latest (probed m spacing r km) } ∷ each findingOf (r .trace)
+  unfolding probed probedWith reusedAt searchedAt latest latestOf each
+  probed-adds r km = by (get (r .ledger) km)
+    where
+      by : (f : Got) → each findingOf (probedWith m spacing r km f .trace) ≡ record { km = km; found = latest (probedWith m spacing r km f) } ∷ each findingOf (r .trace)
+      by (Circle c) = refl
+      by Nothing = refl
+
+  pub trace-findings : (l : Ledger) (kms : List ℕ)
+      → findings (probed m spacing) latest (starting l) kms ≡ each findingOf (after (probed m spacing) latest (starting l) kms .trace)
+  unfolding findings after each
+  trace-findings l [] = refl
+  trace-findings l (km ∷ kms) = rw (trace-findings l kms) (sym (probed-adds (after (probed m spacing) latest (starting l) kms) km))
+
+  -- the kilometres of the trace are those probed
+  probed-km : (r : Run) (km : ℕ) → each (λ p. p .km) (probed m spacing r km .trace) ≡ km ∷ each (λ p. p .km) (r .trace)
+  unfolding probed probedWith reusedAt searchedAt each
+  probed-km r km = by (get (r .ledger) km)
+    where
+      by : (f : Got) → each (λ p. p .km) (probedWith m spacing r km f .trace) ≡ km ∷ each (λ p. p .km) (r .trace)
+      by (Circle c) = refl
+      by Nothing = refl
+
+  pub trace-kms : (l : Ledger) (kms : List ℕ) → each (λ p. p .km) (after (probed m spacing) latest (starting l) kms .trace) ≡ kms
+  unfolding after each
+  trace-kms l [] = refl
+  trace-kms l (km ∷ kms) = probed-km (after (probed m spacing) latest (starting l) kms) km ∙ ap (λ (ks : List ℕ). km ∷ ks) (trace-kms l kms)
+
+  pub length-trace : (l : Ledger) (kms : List ℕ) → length (after (probed m spacing) latest (starting l) kms .trace) ≡ length kms
+  length-trace l kms = sym (length-each (λ p. p .km) (after (probed m spacing) latest (starting l) kms .trace)) ∙ ap length (trace-kms l kms)
+
+-- ---- the end of a run
+
+module _ (m : Map) (spacing : Spacing) (l : Ledger) where
+  abbrev pub WalkedTo : Run → List ℕ → Type 0
+  WalkedTo r kms = Walked (probed m spacing) latest (starting l) (lastKm m) r kms
+
+  -- what the climb found stands in the trace
+  pub walked-any : {P : Finding Candidate → Type 0} (r : Run) (kms : List ℕ) → WalkedTo r kms → AnyOf P (findings (probed m spacing) latest (starting l) kms)
+      → AnyOf (λ p. P (findingOf p)) (r .trace)
+  walked-any {P} r kms w f = any-of-each {P = P} findingOf (λ x p. p) (r .trace) (rw (w .ends) (rw (← trace-findings m spacing l kms) f))
+
+  pub walked-few : (r : Run) (kms : List ℕ) → WalkedTo r kms → length (r .trace) ≤ mostRadii
+  walked-few r kms w = rw (w .ends) (omega (arith, length-trace m spacing l kms, w .few))
+
+  pub walked-distinct : (r : Run) (kms : List ℕ) → WalkedTo r kms → Distinct (each (λ p. p .km) (r .trace))
+  walked-distinct r kms w = rw (w .ends, trace-kms m spacing l kms) (w .distinct)
+
+  module _ (share : Float) where
+    -- where a smallest-radius run ends
+    abbrev pub RunEnds : Ended Run Candidate → Type 0
+    RunEnds e = Ends (probed m spacing) latest (starting l) (reaches (targetPersons m share)) (lastKm m) (climbRadii (lastKm m)) e
+
+    pub smallest-ends : RunEnds (smallestRun m spacing share l)
+    unfolding smallestRun
+    smallest-ends =
+        run-ends (probed m spacing) latest (starting l) (reaches (targetPersons m share)) (lastKm m) (omega (arith, ceiling-least (m .globe .grid)))
+        (omega (arith, ceiling-most (m .globe .grid)))
+
+    -- AT MOST 28 PROBES, NO KILOMETRE TWICE, on any map from any ledger
+    pub smallest-few : length (traceOf (smallestRun m spacing share l)) ≤ mostRadii
+    unfolding traceOf
+    smallest-few = by (smallestRun m spacing share l) smallest-ends
+      where
+        by : (e : Ended Run Candidate) → RunEnds e → length (traceOf e) ≤ mostRadii
+        by (allShort r) e = walked-few r (e .trail) (e .walked)
+        by (reachedAt r km c) e = walked-few r (e .trail) (e .walked)
+
+    pub smallest-distinct : Distinct (each (λ p. p .km) (traceOf (smallestRun m spacing share l)))
+    unfolding traceOf
+    smallest-distinct = by (smallestRun m spacing share l) smallest-ends
+      where
+        by : (e : Ended Run Candidate) → RunEnds e → Distinct (each (λ p. p .km) (traceOf e))
+        by (allShort r) e = walked-distinct r (e .trail) (e .walked)
+        by (reachedAt r km c) e = walked-distinct r (e .trail) (e .walked)

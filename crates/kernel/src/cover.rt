@@ -1,0 +1,33 @@
+// Whether a kernel is the whole grid.
+use crate::Kernel;
+use grid::Grid;
+ghost use mathlib.Core.Path.{_≡_};
+ghost use mathlib.Core.Bool.{true};
+ghost use lib.Dec.{ltb};
+ghost use Rattle.grid.specs.Questions.{sizesInRange};
+ghost use Rattle.kernel.specs.Kernel.{kernelCovers};
+
+// The columns of a row up to half a turn either side are all of them.
+fn full_turn(closing: u32, reach: u8) -> bool
+    ensures { λ r. ⌜ r ≡ ltb closing reach ⌝ }
+{
+    closing < reach as u32
+}
+
+pub fn covers(grid: Grid, kernel: Kernel) -> bool
+    requires { ⌜ sizesInRange grid ≡ true ⌝ }
+    ensures { λ r. ⌜ r ≡ kernelCovers grid kernel ⌝ }
+{
+    let reach = kernel.reach;
+    let closing = grid::closing(grid);
+    let height = grid.height as usize;
+    let mut r: usize = 0;
+    while r < height {
+        if full_turn(closing, reach[r]) {
+            r += 1;
+        } else {
+            return false;
+        }
+    }
+    true
+}

@@ -1,0 +1,9 @@
+-- The laws of a level, for every map, radius and order of blocks.
+pub mod Rule
+pub mod Counts
+pub mod Finds
+pub mod HeldKernels
+pub mod OneBlock
+pub mod Spans
+pub mod Sweeps
+pub mod Chunks

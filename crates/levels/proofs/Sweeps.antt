@@ -1,0 +1,247 @@
+-- A chunk on its way through its words, over plain values: the definition's work so far, its children written, and room for the next.
+use Prim.Native.Nat.{ℕ, _+_, _-_, _/_, _≤_, _<_}
+use mathlib.Core.Path.{_≡_, refl, sym, ap, subst, _∙_}
+use mathlib.Core.Bool.{Bool, true, false, cond}
+use mathlib.Core.List.{List, [], _∷_, _++_, append-nil}
+use native.Mathlib.Omega.{arith}
+use lib.Ieee.{Float}
+use lib.ListN.{length, getD, length-append}
+use Rattle.lists.specs.Lists.{fold, each, concatEach}
+use Rattle.lists.proofs.Folds.{fold-append, each-append, length-each, concat-snoc}
+use Rattle.lists.proofs.Elements.{AllOf, also, all-left, all-right, total, total-append}
+use Rattle.lists.proofs.Writes.{writing-start, writing-more, writing-done, written-none, length-written}
+use Rattle.grid.specs.declared.Grid.{Grid}
+use Rattle.grid.specs.Map.{Map}
+use Rattle.grid.proofs.Sizes.{grid-sizes}
+use Rattle.kernel.specs.Kernel.{kernelOf, Sheet, OnSheet}
+use Rattle.blocks.specs.declared.Block.{Block}
+use Rattle.blocks.specs.Block.{area, split, Rectangle}
+use Rattle.blocks.specs.Word.{wordOf, blockOf, Written, CanSplit}
+use Rattle.blocks.proofs.Tiles.{length-area, split-rectangle, split-settled}
+use Rattle.candidates.specs.declared.Held.{Held}
+use Rattle.levels.specs.declared.ChunkWork.{ChunkWork}
+use Rattle.levels.specs.declared.Examined.{Examined}
+use Rattle.levels.specs.Level.{Work, examine, started, chunk}
+use Rattle.levels.specs.Weight.{weight, statsWeight}
+use Rattle.levels.specs.Work.{mapOf, Ready, Kernels, workOf, CanExamine, Examining, startedWork}
+use Rattle.levels.specs.Buffer.{blocksFrom, children, CanSweep, ChunkWords, Swept}
+use Rattle.levels.proofs.Rule.{fold-rule}
+use Rattle.levels.proofs.Counts.{ended, Counts, counts-kept, next-fits}
+use Rattle.levels.proofs.OneBlock.{kernel-own, block-small}
+use Rattle.levels.proofs.Spans.{span-none, span-cut, span-more}
+
+-- ---- what a chunk has come to
+
+module _ (m : Map) (km : Float) (best : Held) where
+  abbrev pub sofar : List Block → Work
+  sofar bs = fold (examine m km) (started m km best) bs
+
+  module _ {bs : List Block} (rs : AllOf (Rectangle (m .globe .grid)) bs) where
+    sofar-counts : Counts (m .globe .grid) 0 (started m km best .outcome) (sofar bs .outcome) bs
+    sofar-counts = fold-rule m km best (Counts (m .globe .grid)) (counts-kept m km best) (started m km best) rs
+
+    pub sofar-room : length (children (sofar bs .outcome)) + ended (sofar bs .outcome .tally) ≤ total area bs
+    unfolding started concatEach
+    sofar-room = next-fits (m .globe .grid) 0 (started m km best .outcome) (sofar bs .outcome) bs sofar-counts refl refl rs
+
+    pub sofar-light : total area bs ≤ 16200 → weight (sofar bs .outcome .tally) ≤ 100000
+    unfolding started weight statsWeight
+    sofar-light h =
+        let c = sofar-counts in
+        omega (arith, c .levels, c .examined, c .either, c .kernels, sofar-room, length-area (m .globe .grid) rs)
+
+  pub sofar-more : (bs : List Block) (b : Block) → sofar (bs ++ b ∷ []) ≡ examine m km (sofar bs) b
+  unfolding fold
+  sofar-more bs b = fold-append (examine m km) (started m km best) bs (b ∷ [])
+
+-- ---- writing one list after another
+
+pub written-then : (l l′ l″ : List ℕ) (at next last : ℕ) (xs ys : List ℕ) → at + length xs + length ys ≤ length l → Written l at xs l′ next
+    → Written l′ next ys l″ last → Written l at (xs ++ ys) l″ last
+written-then l l′ l″ at next last xs ys room p q =
+    let n = length-append xs ys in
+    let begun = writing-start l at (xs ++ ys) (omega arith) in
+    let first = writing-more begun xs ys l′ refl (p .words) in
+    let second = writing-more (rw (← (p .place)) at first) ys [] l″ (sym (append-nil ys)) (q .words) in
+    record { place = omega (arith, p .place, q .place); words = writing-done second refl }
+
+pub written-size : (l l′ : List ℕ) (at next : ℕ) (xs : List ℕ) → at + length xs ≤ length l → Written l at xs l′ next → length l′ ≡ length l
+written-size l l′ at next xs room p = ap (length {A = ℕ}) (p .words) ∙ length-written at xs l room
+
+pub written-nothing : (l : List ℕ) (at : ℕ) → Written l at [] l at
+written-nothing l at = record { place = omega arith; words = sym (written-none at l) }
+
+-- a survivor's children join those before
+children-more : (s : Bool) (bs : List Block) (b : Block) → concatEach split (cond s (bs ++ b ∷ []) bs) ≡ concatEach split bs ++ cond s (split b) []
+children-more true bs b = concat-snoc split bs b
+children-more false bs b = sym (append-nil (concatEach split bs))
+
+-- ---- the start
+
+-- the middle row is on the grid
+pub middle-on : (g : Grid) (angles : List Float) → Sheet g angles → OnSheet g angles (record { 0 = g .height / 2 })
+middle-on g angles t = record { sheet = t; on = omega (arith, grid-sizes g (t .sizes) .some-rows) }
+
+module _ (g : Grid) (angles : List Float) (km : Float) (best : Held) (w : ChunkWork) (e : w ≡ startedWork g angles km best) where
+  pub start-held : w .held ≡ best
+  unfolding startedWork
+  start-held = ap (λ (x : ChunkWork). x .held) e
+
+  pub start-own : w ≡ startedWork g angles km (w .held)
+  start-own = e ∙ ap (startedWork g angles km) (sym start-held)
+
+  start-kernels : Kernels g angles km w
+  unfolding startedWork kernelOf
+  start-kernels =
+      let own = kernel-own g angles (record { 0 = g .height / 2 }) km in
+      subst (Kernels g angles km) (sym e) (record { wide = own; exact = own; plain = refl })
+
+  start-same : (cosines : List Float) (sums : List ℕ) → workOf w [] ≡ started (mapOf g angles cosines sums) km best
+  unfolding startedWork started kernelOf
+  start-same cosines sums = ap (λ (x : ChunkWork). workOf x []) e
+
+-- ---- the loop
+
+module _ (g : Grid) (angles cosines : List Float) (sums : List ℕ) (near : List ℕ) (start end : ℕ) (km : Float) (best : Held) (far₀ : List ℕ) (live : ℕ) where
+  abbrev m : Map
+  m = mapOf g angles cosines sums
+
+  abbrev upTo : ℕ → Work
+  upTo i = sofar m km best (blocksFrom start i near)
+
+  pub record Sweeping (far : List ℕ) (w : ChunkWork) (at i : ℕ) : Type 0 where
+    pub from : start ≤ i
+    pub to : i ≤ end
+    pub size : length far ≡ length far₀
+    pub same : workOf w (upTo i .outcome .survivors) ≡ upTo i
+    pub kernels : Kernels g angles km w
+    pub written : Written far₀ live (each wordOf (children (upTo i .outcome))) far at
+
+  module _ (t : Ready g angles cosines sums) (words : ChunkWords near start end) (can : CanSweep g (blocksFrom start end near) far₀ live) where
+    pub sweep-start : (w : ChunkWork) → w ≡ startedWork g angles km best → Sweeping far₀ w live start
+    unfolding fold each concatEach started
+    sweep-start w e =
+        let none-yet = sym (span-none near start) in
+        record {
+          from = omega arith;
+          to = words .order;
+          size = refl;
+          same = subst (λ (bs : List Block). workOf w (sofar m km best bs .outcome .survivors) ≡ sofar m km best bs) none-yet (start-same g angles km best w e cosines sums);
+          kernels = start-kernels g angles km best w e;
+          written = subst (λ (bs : List Block). Written far₀ live (each wordOf (children (sofar m km best bs .outcome))) far₀ live) none-yet (written-nothing far₀ live);
+        }
+
+    module _ (far : List ℕ) (w : ChunkWork) (at i : ℕ) (s : Sweeping far w at i) where
+      module _ (h : i < end) where
+        abbrev next : Block
+        next = blockOf (getD near i 0)
+
+        abbrev done : List Block
+        done = blocksFrom start i near
+
+        inside : i < length near
+        inside = omega (arith, words .words)
+
+        parts : blocksFrom start end near ≡ done ++ (next ∷ []) ++ blocksFrom (i + 1) end near
+        parts =
+            span-cut near start (i + 1) end (omega (arith, s .from)) (omega arith)
+            ∙ ap (λ (x : List Block). x ++ blocksFrom (i + 1) end near) (span-more near start i (s .from) inside)
+
+        all : AllOf (Rectangle g) (done ++ next ∷ [])
+        all = all-left (done ++ next ∷ []) (blocksFrom (i + 1) end near) (rw parts at (can .rectangles))
+
+        done-all : AllOf (Rectangle g) done
+        done-all = all-left done (next ∷ []) all
+
+        next-rectangle : Rectangle g next
+        next-rectangle = only (all-right done all)
+          where
+            only : {b : Block} → AllOf (Rectangle g) (b ∷ []) → Rectangle g b
+            only (also r rs) = r
+
+        areas : total area done + area next ≤ total area (blocksFrom start end near)
+        unfolding total
+        areas =
+            omega (
+              arith,
+              ap (total area) parts,
+              total-append area (done ++ next ∷ []) (blocksFrom (i + 1) end near),
+              total-append area done (next ∷ []),
+            )
+
+        pub sweep-examines : CanExamine g angles cosines sums km w next
+        sweep-examines =
+            record {
+              ready = t;
+              kernels = s .kernels;
+              rectangle = next-rectangle;
+              light =
+                  let e : w .tally ≡ upTo i .outcome .tally = ap (λ (x : Work). x .outcome .tally) (s .same) in
+                  rw e (omega (arith, sofar-light m km best done-all (omega (arith, areas, can .narrow))));
+            }
+
+        children-fit : live + length (each wordOf (children (upTo i .outcome))) + length (split next) ≤ length far₀
+        children-fit =
+            omega (
+              arith,
+              sofar-room m km best done-all,
+              length-each wordOf (children (upTo i .outcome)),
+              areas,
+              length-area g (split-rectangle g next next-rectangle),
+              split-settled g next next-rectangle,
+              can .room,
+            )
+
+        pub sweep-room : CanSplit next far at
+        sweep-room =
+            record {
+              small = block-small g angles cosines sums t next next-rectangle;
+              room = omega (arith, children-fit, s .written .place, s .size);
+            }
+
+        module _ (r : Examined) (seen : Examining g angles cosines sums km w next r) (far′ : List ℕ) (at′ : ℕ)
+            (wrote : Written far at (each wordOf (cond (r .survives) (split next) [])) far′ at′) where
+          abbrev kept : List Block
+          kept = cond (r .survives) (upTo i .outcome .survivors ++ next ∷ []) (upTo i .outcome .survivors)
+
+          after : workOf (r .work) kept ≡ upTo (i + 1)
+          after =
+              seen .same (upTo i .outcome .survivors) ∙ ap (λ (x : Work). examine m km x next) (s .same)
+              ∙ sym (ap (sofar m km best) (span-more near start i (s .from) inside) ∙ sofar-more m km best done next)
+
+          survivors : kept ≡ upTo (i + 1) .outcome .survivors
+          survivors = ap (λ (x : Work). x .outcome .survivors) after
+
+          few : (b : Bool) → length (each wordOf (cond b (split next) [])) ≤ length (split next)
+          unfolding each
+          few true = omega (arith, length-each wordOf (split next))
+          few false = omega arith
+
+          pub sweep-next : Sweeping far′ (r .work) at′ (i + 1)
+          sweep-next =
+              let old = each wordOf (children (upTo i .outcome)) in
+              let new = each wordOf (cond (r .survives) (split next) []) in
+              let all-words : old ++ new ≡ each wordOf (children (upTo (i + 1) .outcome)) =
+              sym (each-append wordOf (children (upTo i .outcome)) (cond (r .survives) (split next) []))
+              ∙ ap (each wordOf) (sym (children-more (r .survives) (upTo i .outcome .survivors) next) ∙ ap (concatEach split) survivors) in
+              record {
+                from = omega (arith, s .from);
+                to = omega arith;
+                size = written-size far far′ at at′ new (omega (arith, sweep-room .room, few (r .survives))) wrote ∙ s .size;
+                same = subst (λ (x : List Block). workOf (r .work) x ≡ upTo (i + 1)) survivors after;
+                kernels = seen .kernels;
+                written =
+                    subst (λ (x : List ℕ). Written far₀ live x far′ at′) all-words
+                    (written-then far₀ far far′ live at at′ old new (omega (arith, children-fit, few (r .survives))) (s .written) wrote);
+              }
+
+      pub sweep-done : end ≤ i → Swept (chunk m km best (blocksFrom start end near)) far₀ live far (record { held = w .held; tally = w .tally; live = at })
+      unfolding chunk
+      sweep-done h =
+          let e : i ≡ end = omega (arith, s .to) in
+          rw (← e)
+          (record {
+            held = ap (λ (x : Work). x .outcome .held) (s .same);
+            counts = ap (λ (x : Work). x .outcome .tally) (s .same);
+            written = s .written;
+          })

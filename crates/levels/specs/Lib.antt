@@ -1,0 +1,4 @@
+pub mod Level
+pub mod Weight
+pub mod Work
+pub mod Buffer

@@ -1,0 +1,48 @@
+// One level of a search: its chunks, its counts, and the children that it leaves.
+mod add;
+mod cut;
+mod kept;
+mod sweep;
+mod work;
+
+pub use add::plus;
+pub use add::plus_stats;
+use candidates::Held;
+pub use cut::level;
+use kernel::Kernel;
+
+pub struct SearchStats {
+    pub levels: u32,
+    pub blocks_examined: u64,
+    pub blocks_pruned: u64,
+    pub circles_evaluated: u64,
+    pub kernels_built: u64,
+}
+
+// The counts of a search: those of the original, and the cells of pruned blocks and of single-cell blocks evaluated.
+pub struct Tally {
+    pub stats: SearchStats,
+    pub cells_pruned: u64,
+    pub cells_settled: u64,
+}
+
+// A chunk at work: what it holds, its counts and its two kernels.
+pub struct ChunkWork {
+    pub held: Held,
+    pub tally: Tally,
+    pub wide: Kernel,
+    pub exact: Kernel,
+}
+
+// A chunk's work after a block, and whether the block survives.
+pub struct Examined {
+    pub work: ChunkWork,
+    pub survives: bool,
+}
+
+// What a chunk or a level came to, and the place after the children that it wrote.
+pub struct ChunkResult {
+    pub held: Held,
+    pub tally: Tally,
+    pub live: usize,
+}

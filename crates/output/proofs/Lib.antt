@@ -1,0 +1,4 @@
+pub mod Written
+pub mod Running
+pub mod Shapes
+pub mod Any
