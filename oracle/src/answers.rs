@@ -1,15 +1,19 @@
-//! The oracle's program: `ring`, `check`, `list` and `ask` (see oracle/README.md).
+//! The oracle's program: `ring`, `check`, `list`, `jobs` and `ask` (see oracle/README.md).
+
+mod jobs;
+mod lines;
+mod list;
 
 use std::fmt::Debug;
-use std::io::{self, BufRead, Write};
+use std::io::{self, BufRead};
 use std::process::ExitCode;
 
-use oracle::api::{Centre, Entry, Least, Map, Most, Oracle, Sheet};
+use lines::Lines;
+use oracle::api::{Centre, Entry, Map, Oracle, Sheet};
 use oracle::maps::{self, Rng, Size};
 use oracle::reading::Reading;
-use oracle::search::SearchStats;
 
-/// The seed of the list that the repository holds.
+/// The seed of the lists that the repository holds.
 const LIST_SEED: u64 = 2026;
 
 fn main() -> ExitCode {
@@ -22,10 +26,11 @@ fn main() -> ExitCode {
     match words.first().map(String::as_str) {
         Some("ring") => ring(),
         Some("check") => return check(number(1, 1), number(2, 1000)),
-        Some("list") => list(number(1, LIST_SEED)),
+        Some("list") => list::list(number(1, LIST_SEED)),
+        Some("jobs") => jobs::jobs(number(1, LIST_SEED)),
         Some("ask") => ask(),
         _ => {
-            eprintln!("answers ring | check [SEED] [MAPS] | list [SEED] | ask");
+            eprintln!("answers ring | check [SEED] [MAPS] | list [SEED] | jobs [SEED] | ask");
             return ExitCode::FAILURE;
         }
     }
@@ -233,281 +238,6 @@ fn best_circle(map: &Map, sheet: &Sheet, km: u32) -> Centre {
         }
     }
     best.expect("a grid has a cell")
-}
-
-/// Lines of the list's format, and how many of each kind were written.
-struct Lines<W: Write> {
-    out: W,
-    written: u64,
-    tally: [u64; 26],
-}
-
-impl<W: Write> Lines<W> {
-    fn new(out: W) -> Self {
-        Self {
-            out,
-            written: 0,
-            tally: [0; 26],
-        }
-    }
-
-    fn line(&mut self, tag: char, numbers: impl IntoIterator<Item = u64>) {
-        let mut text = tag.to_string();
-        for number in numbers {
-            text += &format!(" {number}");
-        }
-        text.push('\n');
-        self.out
-            .write_all(text.as_bytes())
-            .expect("a place to write");
-        self.written += 1;
-        self.tally[tag as usize - 'A' as usize] += 1;
-    }
-
-    fn count(&self, tag: char) -> u64 {
-        self.tally[tag as usize - 'A' as usize]
-    }
-
-    fn map(&mut self, map: &Map, sheet: &Sheet) {
-        self.line(
-            'G',
-            [
-                u64::from(map.width),
-                u64::from(map.height),
-                map.origin_lat.to_bits(),
-                map.lon_step.to_bits(),
-                map.lat_step.to_bits(),
-            ],
-        );
-        self.line('C', map.counts.iter().map(|&count| u64::from(count)));
-        self.sheet(sheet);
-    }
-
-    fn sheet(&mut self, sheet: &Sheet) {
-        self.line('A', sheet.angles.iter().map(|angle| angle.to_bits()));
-        self.line('K', sheet.cosines.iter().map(|cosine| cosine.to_bits()));
-    }
-
-    fn circle(&mut self, oracle: &Oracle, km: u32, row: u32, col: u32) {
-        let population = oracle.circle(km, row, col);
-        self.line('P', [km.into(), row.into(), col.into(), population]);
-    }
-
-    fn automatic(&mut self, oracle: &Oracle, km: u32) {
-        self.line('S', [km.into(), oracle.initial_spacing(km).into()]);
-    }
-
-    fn most(&mut self, oracle: &Oracle, spacing: u32, km: u32) {
-        let Most {
-            centre,
-            stats,
-            tolerance,
-        } = oracle.most_populous(spacing, km);
-        let mut numbers = vec![spacing.into(), km.into()];
-        numbers.extend(centre_numbers(centre));
-        numbers.extend(stats_numbers(stats));
-        numbers.push(tolerance.to_bits());
-        self.line('M', numbers);
-    }
-
-    fn ledger(&mut self, tag: char, ledger: &[Entry]) {
-        let mut numbers = vec![ledger.len() as u64];
-        for entry in ledger {
-            numbers.push(entry.km.into());
-            numbers.extend(centre_numbers(entry.centre));
-        }
-        self.line(tag, numbers);
-    }
-
-    /// The call and the ledger after it.
-    fn least(&mut self, oracle: &Oracle, spacing: u32, share: f64, ledger: &mut Vec<Entry>) {
-        let least: Least = oracle.smallest(spacing, share, ledger);
-        let mut numbers = vec![spacing.into(), share.to_bits(), least.radius_km.into()];
-        numbers.extend(centre_numbers(least.centre));
-        numbers.extend([
-            least.share.to_bits(),
-            least.persons.to_bits(),
-            least.total.to_bits(),
-            least.share_achieved.to_bits(),
-        ]);
-        let (km, people) = least.short.unwrap_or_default();
-        numbers.extend([u64::from(least.short.is_some()), km.into(), people]);
-        numbers.extend([u64::from(least.covers_whole_grid), least.slack.to_bits()]);
-        let (low, high, radii) = least.ambiguity.unwrap_or_default();
-        numbers.push(u64::from(least.ambiguity.is_some()));
-        numbers.extend([u64::from(low), u64::from(high), u64::from(radii)]);
-        numbers.extend([least.tolerance.to_bits(), least.evaluated, least.reused]);
-        numbers.extend(stats_numbers(least.stats));
-        self.line('R', numbers);
-        self.ledger('E', ledger);
-    }
-}
-
-fn centre_numbers(centre: Centre) -> [u64; 3] {
-    [centre.row.into(), centre.col.into(), centre.population]
-}
-
-fn stats_numbers(stats: SearchStats) -> [u64; 5] {
-    [
-        stats.levels.into(),
-        stats.blocks_examined,
-        stats.blocks_pruned,
-        stats.circles_evaluated,
-        stats.kernels_built,
-    ]
-}
-
-/// The fixed list: the ring, then seeded maps with a handful of calls each.
-fn list(seed: u64) {
-    const VERSION: u64 = 1;
-    const MAPS: u32 = 72;
-    const REFUSED: u64 = 4;
-    let mut rng = Rng::new(seed);
-    let mut lines = Lines::new(io::BufWriter::new(io::stdout().lock()));
-    lines.line('H', [VERSION, seed]);
-
-    ring_calls(&mut lines);
-
-    let (mut tried, mut refused, mut kept) = (0u64, 0u64, 0u64);
-    let mut made = 0;
-    // Sheets that question 6 refuses are rare: the last draws only look for enough of them.
-    while made < MAPS || kept < REFUSED {
-        let mut edge = None;
-        let map = match made {
-            // A few of a chosen shape, so that every list has many levels and both long sides.
-            8 => maps::of_size(&mut rng, 180, 2),
-            20 => maps::of_size(&mut rng, 120, 3),
-            32 => maps::of_size(&mut rng, 1, 48),
-            44 => maps::of_size(&mut rng, 24, 12),
-            56 => globe(maps::of_size(&mut rng, 36, 18)),
-            66 => globe(maps::of_size(&mut rng, 60, 24)),
-            _ if made % 10 == 3 => {
-                let (width, height) = (rng.range(1, 7), rng.range(2, 5));
-                let (map, km) = maps::exact(&mut rng, width, height);
-                edge = Some(km);
-                map
-            }
-            _ if made % 9 == 4 => maps::map(&mut rng, Size::Job),
-            _ => maps::map(&mut rng, Size::Small),
-        };
-        if !maps::admitted(&map) {
-            continue;
-        }
-        tried += 1;
-        let oracle = Oracle::new(&map);
-        let sheet = oracle.sheet();
-        if !maps::sheet_accepted(&map, &sheet) {
-            refused += 1;
-            if kept < REFUSED && map.width * map.height <= 24 {
-                kept += 1;
-                lines.map(&map, &sheet);
-                lines.line('Q', [6]);
-            }
-            continue;
-        }
-        if made == MAPS {
-            continue;
-        }
-        made += 1;
-        lines.map(&map, &sheet);
-        if let Some(km) = edge {
-            for km in [km - 1, km] {
-                lines.circle(&oracle, km, 0, 0);
-                lines.most(&oracle, 0, km);
-            }
-        }
-        map_calls(&mut lines, &mut rng, &map, &oracle, &sheet, made);
-    }
-    let before = lines.written;
-    lines.line('Z', [before]);
-    eprintln!("seed {seed}: {tried} maps tried, {refused} sheets refused by question 6");
-    eprintln!(
-        "{} lines; maps {}, refused {}; calls: P {}, S {}, M {}, R {}",
-        lines.written,
-        lines.count('G'),
-        lines.count('Q'),
-        lines.count('P'),
-        lines.count('S'),
-        lines.count('M'),
-        lines.count('R')
-    );
-}
-
-/// The same columns and counts from pole to pole.
-fn globe(map: Map) -> Map {
-    Map {
-        origin_lat: 90.0,
-        lat_step: -180.0 / f64::from(map.height),
-        ..map
-    }
-}
-
-fn ring_calls<W: Write>(lines: &mut Lines<W>) {
-    let mut map = ring_map();
-    let oracle = Oracle::new(&map);
-    lines.map(&map, &oracle.sheet());
-    for km in [0, 1, 10_007, 10_008, 20_015, 20_016] {
-        lines.circle(&oracle, km, 0, 3);
-        lines.automatic(&oracle, km);
-        lines.most(&oracle, 4, km);
-        lines.most(&oracle, 0, km);
-    }
-    for spacing in [1, 2, 3, 5] {
-        lines.most(&oracle, spacing, 10_008);
-    }
-    let mut ledger = Vec::new();
-    for (spacing, share) in [(4, 0.5), (0, 1.0), (1, 0.5), (2, 1e-300)] {
-        // The first two from a fresh ledger, then what the second left.
-        if share != 1e-300 && spacing != 1 {
-            ledger.clear();
-            lines.ledger('L', &ledger);
-        }
-        lines.least(&oracle, spacing, share, &mut ledger);
-    }
-    map.counts.fill(0);
-    let empty = Oracle::new(&map);
-    lines.map(&map, &empty.sheet());
-    lines.most(&empty, 4, 10_008);
-    lines.ledger('L', &[]);
-    lines.least(&empty, 4, 0.5, &mut Vec::new());
-}
-
-fn map_calls<W: Write>(
-    lines: &mut Lines<W>,
-    rng: &mut Rng,
-    map: &Map,
-    oracle: &Oracle,
-    sheet: &Sheet,
-    made: u32,
-) {
-    let radius = maps::radius(rng, sheet);
-    lines.circle(
-        oracle,
-        radius,
-        rng.range(0, map.height - 1),
-        rng.range(0, map.width - 1),
-    );
-    lines.automatic(oracle, maps::radius(rng, sheet));
-    for _ in 0..2 {
-        let (spacing, km) = (maps::spacing(rng, map), maps::radius(rng, sheet));
-        lines.most(oracle, spacing, km);
-    }
-    // One smallest radius from a fresh ledger; on every other map a second call that finds some of
-    // its radii there, and on every fourth one with a ledger that was another map's.
-    let mut ledger = Vec::new();
-    lines.ledger('L', &ledger);
-    for _ in 0..1 + made % 2 {
-        let (spacing, share) = (maps::spacing(rng, map), maps::share(rng, map));
-        lines.least(oracle, spacing, share, &mut ledger);
-    }
-    if made % 4 == 2 {
-        // Once as many as leave just the 28 places that a call wants free.
-        let entries = if made == 6 { 484 } else { rng.range(1, 24) };
-        let mut ledger = maps::foreign_ledger(rng, map, entries);
-        lines.ledger('L', &ledger);
-        let (spacing, share) = (maps::spacing(rng, map), maps::share(rng, map));
-        lines.least(oracle, spacing, share, &mut ledger);
-    }
 }
 
 /// Answers requests in the list's own lines, the answers left off: `G` and `C` give the map and

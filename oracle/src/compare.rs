@@ -1,15 +1,12 @@
-//! The original and this module, asked the same of the same maps: every field compared, and the time of both.
-//!
-//! compare SEED MAPS       maps of all sizes, every call; fails on a disagreement
-//! compare speed           the least of five times of both; ours with the sheet judged and the sums filled in each call
+//! The original and this module, asked the same of the same maps, every field compared: compare SEED MAPS.
+//! Maps of all sizes, every call; fails on a disagreement.
 
 mod module;
 
 use std::fmt::Debug;
 use std::process::ExitCode;
-use std::time::{Duration, Instant};
 
-use module::Module;
+use module::{Module, entries_of, ledger_of};
 use oracle::api::{Map, Oracle, Sheet};
 use oracle::maps::{self, Rng, Size};
 
@@ -116,11 +113,16 @@ fn smallest(tally: &mut Tally, rng: &mut Rng, map: &Map, sheet: &Sheet, oracle: 
         let (spacing, share) = (maps::spacing(rng, map), maps::share(rng, map));
         tally.smallest += 1;
         let call = format!("smallest radius, spacing {spacing}, share {share:e}, {ledger:?}");
-        let mut other = ledger.clone();
+        let mut other = ledger_of(&ledger);
         let theirs = oracle.smallest(spacing, share, &mut ledger);
         let ours = module.smallest(spacing, share, &mut other);
         tally.compare(map, &call, &Ok(theirs), &ours);
-        tally.compare(map, &format!("{call}: ledger after"), &ledger, &other);
+        tally.compare(
+            map,
+            &format!("{call}: ledger after"),
+            &ledger,
+            &entries_of(&other),
+        );
     }
 }
 
@@ -167,82 +169,13 @@ fn compare(seed: u64, maps: u64) -> ExitCode {
     }
 }
 
-/// The least of five times of a call.
-fn least<T>(mut call: impl FnMut() -> T) -> Duration {
-    (0..5)
-        .map(|_| {
-            let start = Instant::now();
-            std::hint::black_box(call());
-            start.elapsed()
-        })
-        .min()
-        .expect("five times")
-}
-
-fn line(name: &str, theirs: Duration, ours: Duration) {
-    println!(
-        "| {name} | {:.4} ms | {:.4} ms | {:.2} |",
-        theirs.as_secs_f64() * 1e3,
-        ours.as_secs_f64() * 1e3,
-        theirs.as_secs_f64() / ours.as_secs_f64()
-    );
-}
-
-fn speed() -> ExitCode {
-    println!("| call | original | module | ratio |\n|---|---|---|---|");
-    for (width, height) in [(24, 12), (180, 90)] {
-        let mut rng = Rng::new(7);
-        let map = Map {
-            origin_lat: 90.0,
-            lat_step: -180.0 / f64::from(height),
-            ..maps::of_size(&mut rng, width, height)
-        };
-        let oracle = Oracle::new(&map);
-        let sheet = oracle.sheet();
-        let mut module = Module::new(&map, &sheet);
-        let (row, col) = (height / 2, width / 2);
-        for km in [200, 10_000] {
-            let ours = least(|| module.circle(km, row, col));
-            let name = format!("circle, {width} × {height}, {km} km");
-            line(&name, least(|| oracle.circle(km, row, col)), ours);
-            let theirs = least(|| Oracle::new(&map).circle(km, row, col));
-            line(&format!("{name}, with its table"), theirs, ours);
-        }
-        for km in [200, 2000, 10_000, 20_016] {
-            let theirs = least(|| oracle.most_populous(0, km));
-            let ours = least(|| module.search(0, km));
-            line(
-                &format!("search, {width} × {height}, {km} km"),
-                theirs,
-                ours,
-            );
-        }
-        for share in [0.05, 0.5, 1.0] {
-            let theirs = least(|| oracle.smallest(0, share, &mut Vec::new()));
-            let ours = least(|| module.smallest(0, share, &mut Vec::new()));
-            line(
-                &format!("smallest radius, {width} × {height}, share {share}"),
-                theirs,
-                ours,
-            );
-        }
-    }
-    ExitCode::SUCCESS
-}
-
 fn main() -> ExitCode {
     let words: Vec<String> = std::env::args().skip(1).collect();
-    match words.iter().map(String::as_str).collect::<Vec<_>>()[..] {
-        ["speed"] => speed(),
-        [seed, maps] => match (seed.parse(), maps.parse()) {
-            (Ok(seed), Ok(maps)) => compare(seed, maps),
-            _ => usage(),
-        },
-        _ => usage(),
+    if let [seed, maps] = &words[..]
+        && let (Ok(seed), Ok(maps)) = (seed.parse(), maps.parse())
+    {
+        return compare(seed, maps);
     }
-}
-
-fn usage() -> ExitCode {
-    println!("compare SEED MAPS | compare speed");
+    println!("compare SEED MAPS");
     ExitCode::FAILURE
 }

@@ -1,0 +1,314 @@
+//! The Rust original and this module in one process, asked the same of the same maps and sheets: their answers are held equal in
+//! every field, and the times of both are printed as Markdown tables. bench/run builds and runs it.
+
+// The comparison uses more of it.
+#[allow(dead_code)]
+#[path = "../oracle/src/module.rs"]
+mod module;
+
+use std::fmt::Debug;
+use std::fs;
+use std::hint::black_box;
+use std::time::{Duration, Instant};
+
+use module::{Module, entries_of, jadurphen::Ledger};
+use oracle::api::{Map, Oracle, Sheet};
+use oracle::maps::Rng;
+
+const SIZES: [(u32, u32); 3] = [(24, 12), (90, 45), (180, 90)];
+const RADII: [u32; 4] = [200, 2_000, 10_000, 20_016];
+const SHARES: [f64; 3] = [0.05, 0.5, 1.0];
+const SEED: u64 = 7;
+
+/// How people are spread over the cells.
+#[derive(Clone, Copy)]
+enum Spread {
+    /// Every order of magnitude as likely.
+    HeavyTailed,
+    Uniform,
+    Equal,
+}
+
+impl Spread {
+    const ALL: [Self; 3] = [Self::HeavyTailed, Self::Uniform, Self::Equal];
+
+    fn name(self) -> &'static str {
+        match self {
+            Self::HeavyTailed => "heavy-tailed",
+            Self::Uniform => "uniform",
+            Self::Equal => "equal",
+        }
+    }
+
+    fn counts(self, cells: u32) -> Vec<u32> {
+        let mut rng = Rng::new(SEED);
+        let mut count = || match self {
+            Self::HeavyTailed => rng.next() as u32 >> rng.range(0, 31),
+            Self::Uniform => rng.range(0, 1_000_000),
+            Self::Equal => 1_000,
+        };
+        (0..cells).map(|_| count()).collect()
+    }
+}
+
+/// A map of the whole globe.
+fn globe(width: u32, height: u32, spread: Spread) -> Map {
+    Map {
+        width,
+        height,
+        origin_lat: 90.0,
+        lon_step: 360.0 / f64::from(width),
+        lat_step: -180.0 / f64::from(height),
+        counts: spread.counts(width * height),
+    }
+}
+
+/// The least time of a call. Short calls are timed many at once, so that the clock's own time does not count.
+fn least<T>(mut call: impl FnMut() -> T) -> f64 {
+    let mut time = |calls: u32| {
+        let start = Instant::now();
+        for _ in 0..calls {
+            black_box(call());
+        }
+        start.elapsed()
+    };
+    let once = time(1).max(Duration::from_nanos(20));
+    let calls = (Duration::from_millis(2).as_nanos() / once.as_nanos()).clamp(1, 20_000) as u32;
+    let (mut best, mut spent, mut rounds) = (f64::INFINITY, Duration::ZERO, 0);
+    while rounds < 5 || (rounds < 50 && spent < Duration::from_millis(200)) {
+        let taken = time(calls);
+        best = best.min(taken.as_secs_f64() / f64::from(calls));
+        spent += taken;
+        rounds += 1;
+    }
+    best
+}
+
+fn shown(seconds: f64) -> String {
+    let micros = seconds * 1e6;
+    match micros {
+        ..9.995 => format!("{micros:.2} µs"),
+        ..999.5 => format!("{micros:.0} µs"),
+        ..9995.0 => format!("{:.2} ms", micros / 1e3),
+        ..99950.0 => format!("{:.1} ms", micros / 1e3),
+        _ => format!("{:.0} ms", micros / 1e3),
+    }
+}
+
+fn ratio(theirs: f64, ours: f64) -> String {
+    let times = theirs / ours;
+    match times {
+        ..0.1 => format!("{times:.3}"),
+        ..1.0 => format!("{times:.2}"),
+        ..9.95 => format!("{times:.1}"),
+        _ => format!("{times:.0}"),
+    }
+}
+
+fn equal<T: PartialEq + Debug>(call: &str, theirs: T, ours: T) {
+    assert!(
+        theirs == ours,
+        "{call}\n  original {theirs:?}\n  module   {ours:?}"
+    );
+}
+
+/// What every call of a map spends before its own work.
+#[derive(Clone, Copy)]
+struct Before {
+    judged: f64,
+    summed: f64,
+}
+
+impl Before {
+    /// A sums buffer one word short is question 7: refused when questions 1 to 6 are answered. A search at 0 km only fills the sums.
+    fn measured(map: &Map, sheet: &Sheet) -> Self {
+        let mut module = Module::new(map, sheet);
+        let mut short = Module::new(map, sheet);
+        short.lent.sums.pop();
+        equal("a word short", Err(7), short.search(0, 0).map(|_| ()));
+        let (mut answered, mut judged) = (f64::INFINITY, f64::INFINITY);
+        // In turn, since the one is subtracted from the other.
+        for _ in 0..5 {
+            answered = answered.min(least(|| module.search(0, 0)));
+            judged = judged.min(least(|| short.search(0, 0)));
+        }
+        Self {
+            judged,
+            summed: (answered - judged).max(0.0),
+        }
+    }
+
+    /// The rest of a call.
+    fn rest(self, call: f64) -> f64 {
+        (call - self.judged - self.summed).max(0.0)
+    }
+}
+
+/// A size of map with its sheet, which the spread of the people does not change.
+struct Size {
+    name: String,
+    maps: Vec<(Spread, Map, Oracle)>,
+    sheet: Sheet,
+    before: Before,
+}
+
+impl Size {
+    fn new((width, height): (u32, u32)) -> Self {
+        let maps: Vec<_> = Spread::ALL
+            .iter()
+            .map(|&spread| {
+                let map = globe(width, height, spread);
+                let oracle = Oracle::new(&map);
+                (spread, map, oracle)
+            })
+            .collect();
+        let sheet = maps[0].2.sheet();
+        let before = Before::measured(&maps[0].1, &sheet);
+        Self {
+            name: format!("{width} × {height}"),
+            maps,
+            sheet,
+            before,
+        }
+    }
+}
+
+fn parts(sizes: &[Size]) {
+    println!("| size | angles | questions 1 to 6 | sums filled |\n|---|---|---|---|");
+    for size in sizes {
+        let Before { judged, summed } = size.before;
+        let angles = size.sheet.angles.len();
+        println!(
+            "| {} | {angles} | {} | {} |",
+            size.name,
+            shown(judged),
+            shown(summed)
+        );
+    }
+}
+
+fn circles(sizes: &[Size]) {
+    println!(
+        "\n| single circle | original | with its table built | module | ratio |\n|---|---|---|---|---|"
+    );
+    for size in sizes {
+        let (_, map, oracle) = &size.maps[0];
+        let mut module = Module::new(map, &size.sheet);
+        let (row, col) = (map.height / 2, map.width / 2);
+        for km in [200, 10_000] {
+            let call = format!("{}, {km} km", size.name);
+            equal(
+                &call,
+                Ok(oracle.circle(km, row, col)),
+                module.circle(km, row, col),
+            );
+            let theirs = least(|| oracle.circle(km, row, col));
+            let table = least(|| Oracle::new(map).circle(km, row, col));
+            let ours = least(|| module.circle(km, row, col));
+            println!(
+                "| {call} | {} | {} | {} | {} |",
+                shown(theirs),
+                shown(table),
+                shown(ours),
+                ratio(theirs, ours)
+            );
+        }
+    }
+}
+
+fn searches(sizes: &[Size]) {
+    println!("\n| search | original | module | ratio | of it the search |\n|---|---|---|---|---|");
+    for size in sizes {
+        for (spread, map, oracle) in &size.maps {
+            let mut module = Module::new(map, &size.sheet);
+            for km in RADII {
+                let call = format!("{}, {}, {km} km", size.name, spread.name());
+                equal(
+                    &call,
+                    Ok(oracle.most_populous(0, km)),
+                    module.search(0, km).map(|found| found.most),
+                );
+                let theirs = least(|| oracle.most_populous(0, km));
+                let ours = least(|| module.search(0, km));
+                println!(
+                    "| {call} | {} | {} | {} | {} |",
+                    shown(theirs),
+                    shown(ours),
+                    ratio(theirs, ours),
+                    shown(size.before.rest(ours))
+                );
+            }
+        }
+    }
+}
+
+/// Both sides' times of a share, from an empty ledger and from the one that this leaves.
+fn smallest(call: &str, oracle: &Oracle, module: &mut Module, share: f64) -> [f64; 4] {
+    let (mut entries, mut ledger) = (Vec::new(), Ledger::default());
+    for state in ["fresh", "warm"] {
+        let call = format!("{call}, {state} ledger");
+        equal(
+            &call,
+            Ok(oracle.smallest(0, share, &mut entries)),
+            module.smallest(0, share, &mut ledger),
+        );
+        equal(&call, entries.clone(), entries_of(&ledger));
+    }
+    let warm = least(|| oracle.smallest(0, share, &mut entries));
+    let our_warm = least(|| module.smallest(0, share, &mut ledger));
+    let fresh = least(|| oracle.smallest(0, share, &mut Vec::new()));
+    let our_fresh = least(|| {
+        ledger.clear();
+        module.smallest(0, share, &mut ledger)
+    });
+    [fresh, our_fresh, warm, our_warm]
+}
+
+fn smallest_radii(sizes: &[Size]) {
+    println!(
+        "\n| smallest radius | original | module | ratio | of it the searches | warm: original | module | ratio |\n|---|---|---|---|---|---|---|---|"
+    );
+    for size in sizes {
+        for (spread, map, oracle) in &size.maps {
+            let mut module = Module::new(map, &size.sheet);
+            for share in SHARES {
+                let call = format!("{}, {}, share {share}", size.name, spread.name());
+                let [fresh, our_fresh, warm, our_warm] =
+                    smallest(&call, oracle, &mut module, share);
+                println!(
+                    "| {call} | {} | {} | {} | {} | {} | {} | {} |",
+                    shown(fresh),
+                    shown(our_fresh),
+                    ratio(fresh, our_fresh),
+                    shown(size.before.rest(our_fresh)),
+                    shown(warm),
+                    shown(our_warm),
+                    ratio(warm, our_warm)
+                );
+            }
+        }
+    }
+}
+
+/// The processor, its cores and the load averages, where the system tells them.
+fn machine() -> String {
+    let cpu = fs::read_to_string("/proc/cpuinfo").unwrap_or_default();
+    let name = cpu.lines().find_map(|line| line.strip_prefix("model name"));
+    let name = name.map_or("unknown processor", |rest| {
+        rest.trim_start_matches([' ', '\t', ':'])
+    });
+    let cores = std::thread::available_parallelism().map_or(0, |n| n.get());
+    let load = fs::read_to_string("/proc/loadavg").unwrap_or_default();
+    let load: Vec<_> = load.split_whitespace().take(3).collect();
+    format!("{name}, {cores} cores, load average {}", load.join(" "))
+}
+
+fn main() {
+    println!("Before: {}.\n", machine());
+    let sizes = SIZES.map(Size::new);
+    parts(&sizes);
+    circles(&sizes);
+    searches(&sizes);
+    smallest_radii(&sizes);
+    println!("\nAfter: {}.", machine());
+}
