@@ -22,8 +22,8 @@ use Rattle.ledger.specs.declared.PutAnswer.{PutAnswer}
 use Rattle.ledger.specs.declared.PutAnswer.the-variants as put-answer
 use Rattle.ledger.specs.Call.{PutOutcome, putQuestions, putCall, putAnswer}
 use Rattle.ledger.proofs.Calls.{put-room}
-use Rattle.capi.specs.Words.{ledgerLength, ledgerOf, ledgerWords}
-use Rattle.capi.proofs.Places.{counted-fits, fits-length}
+use Rattle.words.specs.Words.{ledgerLength, ledgerOf, ledgerWords}
+use Rattle.words.proofs.Places.{counted-fits, fits-length}
 use Rattle.kernel.specs.declared.CircleAnswer.{CircleAnswer}
 use Rattle.kernel.specs.declared.CircleAnswer.the-variants as circle-answer
 use Rattle.kernel.specs.Call.{CircleOutcome, circleCall, circleAnswer}

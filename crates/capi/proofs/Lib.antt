@@ -1,4 +1,2 @@
-pub mod General
-pub mod Places
 pub mod Crossings
 pub mod SmallestCrossings

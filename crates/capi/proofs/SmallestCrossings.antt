@@ -15,20 +15,21 @@ use Rattle.search.specs.Call.{Buffers}
 use Rattle.ledger.specs.declared.Ledger.{Ledger}
 use Rattle.ledger.specs.Ledger.{capacity}
 use Rattle.ledger.proofs.Laws.{places-free}
-use Rattle.smallest.specs.declared.Ambiguity.{Ambiguity}
-use Rattle.smallest.specs.declared.Ambiguity.the-variants as ambiguity-case
-use Rattle.smallest.specs.declared.ShortBelow.{ShortBelow}
-use Rattle.smallest.specs.declared.ShortBelow.the-variants as short-case
-use Rattle.smallest.specs.declared.Smallest.{Smallest}
+use Rattle.probes.specs.declared.Ambiguity.{Ambiguity}
+use Rattle.probes.specs.declared.Ambiguity.the-variants as ambiguity-case
+use Rattle.probes.specs.declared.ShortBelow.{ShortBelow}
+use Rattle.probes.specs.declared.ShortBelow.the-variants as short-case
+use Rattle.probes.specs.declared.Smallest.{Smallest}
 use Rattle.smallest.specs.declared.SmallestAnswer.{SmallestAnswer}
 use Rattle.smallest.specs.declared.SmallestAnswer.the-variants as smallest-answer
-use Rattle.smallest.specs.Smallest.{smallest}
-use Rattle.smallest.specs.Call.{mostRadii, SmallestOutcome, smallestQuestions, smallestCall, smallestAnswer}
+use Rattle.probes.specs.Smallest.{smallest}
+use Rattle.probes.specs.Probes.{mostRadii}
+use Rattle.smallest.specs.Call.{SmallestOutcome, smallestQuestions, smallestCall, smallestAnswer}
 use Rattle.smallest.proofs.SmallestCalls.{smallest-passed}
-use Rattle.capi.specs.Words.{ledgerLength, wordAt, ledgerOf, ledgerWords}
+use Rattle.words.specs.Words.{ledgerLength, wordAt, ledgerOf, ledgerWords}
 use Rattle.capi.specs.Crossing.{numberOf, written, seen}
 use Rattle.capi.specs.Smallest.{shortWords, ambiguityWords, smallestWords, smallestFloats, smallestCrossed, smallestCrossing}
-use Rattle.capi.proofs.Places.{counted-fits, fits-length}
+use Rattle.words.proofs.Places.{counted-fits, fits-length}
 use Rattle.capi.proofs.Crossings.{no-refusal, seen-refused}
 
 -- ---- the words

@@ -12,7 +12,7 @@ use Rattle.grid.specs.declared.Grid.{Grid}
 use Rattle.grid.specs.Answer.{after}
 use Rattle.ledger.specs.declared.Entry.{Entry}
 use Rattle.ledger.specs.Call.{PutOutcome, putCall}
-use Rattle.capi.specs.Words.{ledgerOf, ledgerWords}
+use Rattle.words.specs.Words.{ledgerOf, ledgerWords}
 use Rattle.capi.specs.Crossing.{numberOf, written}
 
 pub record CircleCrossing : Type 0 where

@@ -1,4 +1,3 @@
 pub mod Crossing
-pub mod Words
 pub mod Calls
 pub mod Smallest

@@ -7,13 +7,13 @@ use Rattle.grid.specs.Map.{Map}
 use Rattle.grid.specs.Answer.{after}
 use Rattle.bounds.specs.declared.Spacing.{Spacing}
 use Rattle.search.specs.Call.{Buffers}
-use Rattle.smallest.specs.declared.Ambiguity.{Ambiguity}
-use Rattle.smallest.specs.declared.Ambiguity.the-variants as ambiguity-case
-use Rattle.smallest.specs.declared.ShortBelow.{ShortBelow}
-use Rattle.smallest.specs.declared.ShortBelow.the-variants as short-case
-use Rattle.smallest.specs.declared.Smallest.{Smallest}
+use Rattle.probes.specs.declared.Ambiguity.{Ambiguity}
+use Rattle.probes.specs.declared.Ambiguity.the-variants as ambiguity-case
+use Rattle.probes.specs.declared.ShortBelow.{ShortBelow}
+use Rattle.probes.specs.declared.ShortBelow.the-variants as short-case
+use Rattle.probes.specs.declared.Smallest.{Smallest}
 use Rattle.smallest.specs.Call.{SmallestOutcome, smallestCall}
-use Rattle.capi.specs.Words.{ledgerOf, ledgerWords}
+use Rattle.words.specs.Words.{ledgerOf, ledgerWords}
 use Rattle.capi.specs.Crossing.{numberOf, written}
 
 -- 1, the kilometre and the population of the witness; three times 0 where there is none

@@ -4,7 +4,6 @@ mod circle;
 mod put;
 mod search_call;
 mod smallest_call;
-mod words;
 
 pub use circle::jadurphen_circle;
 pub use put::jadurphen_put;

@@ -1,5 +1,4 @@
 // The put call over a ledger of words.
-use crate::words;
 use candidates::Candidate;
 use grid::Col;
 use grid::Grid;

@@ -1,10 +1,9 @@
 // The smallest-radius call over a ledger of words.
 use crate::search_call;
-use crate::words;
 use grid::Grid;
-use smallest::Ambiguity;
-use smallest::ShortBelow;
-use smallest::Smallest;
+use probes::Ambiguity;
+use probes::ShortBelow;
+use probes::Smallest;
 use smallest::SmallestAnswer;
 ghost use mathlib.Core.Path.{_≡_};
 ghost use Rattle.capi.specs.Crossing.{gridOf, mapOf, spacingFrom, seen};

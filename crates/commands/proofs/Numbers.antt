@@ -1,15 +1,11 @@
--- Numbers of several bytes, by their halves; and the float of a NaN's pattern.
+-- Numbers of several bytes, by their halves.
 use Prim.Native.Nat.{ℕ, suc, _+_, _*_, _≤_, _<_}
 use mathlib.Core.Path.{_≡_, refl, sym, _∙_, ap, subst}
-use mathlib.Core.Bool.{Bool, true, false, not}
 use mathlib.Core.List.{List, [], _∷_}
 use native.Mathlib.Omega.{arith}
 use native.Mathlib.Numerals.{add-one}
-use lib.Dec.{T}
-use lib.Ieee.{Float, nan, inf, fin, binary64, isNan, ofBits, nanBits}
-use lib.Ieee.Bits.{nanBits-is}
+use lib.Ieee.{binary64, ofBits}
 use lib.ListN.{length, take, drop, getD}
-use Rattle.lists.proofs.Bools.{of-true}
 use lib.Seq.{drop-cons, drop-drop}
 use Rattle.commands.specs.Command.{little, number, float}
 
@@ -61,14 +57,3 @@ module _ (bs : List ℕ) where
   pub float-drop : (from p : ℕ) → float p (drop from bs) ≡ float (from + p) bs
   unfolding float
   float-drop from p = ap (ofBits binary64) (number-drop from p 8)
-
--- ---- NaNs
-
-nan-only : (x : Float) → isNan x ≡ true → nan ≡ x
-unfolding isNan
-nan-only nan h = refl
-nan-only (inf s) h = absurd (of-true false h)
-nan-only (fin s m e) h = absurd (of-true false h)
-
-pub nan-of : (bits : ℕ) → nanBits binary64 bits ≡ true → nan ≡ ofBits binary64 bits
-nan-of bits h = nan-only (ofBits binary64 bits) (sym (nanBits-is binary64 bits) ∙ h)

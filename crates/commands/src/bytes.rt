@@ -1,25 +1,8 @@
 // Numbers at a place of a slice: of one, two, four and eight bytes, the least byte first.
 ghost use mathlib.Core.Path.{_≡_};
 ghost use Prim.Native.Nat.{_+_, _≤_, _<_};
-ghost use lib.Ieee.{binary64, ofBits, nanBits};
 ghost use lib.ListN.{length};
 ghost use Rattle.commands.specs.Command.{number, float};
-
-// Every pattern above that of an infinity, the sign apart, is a NaN's.
-fn is_nan(bits: u64) -> bool
-    ensures { λ r. ⌜ r ≡ nanBits binary64 bits ⌝ }
-{
-    0x7ff0000000000000 < bits % 0x8000000000000000
-}
-
-fn float_of(bits: u64) -> f64
-    ensures { λ r. ⌜ r ≡ ofBits binary64 bits ⌝ }
-{
-    if is_nan(bits) {
-        return 0.0 / 0.0;
-    }
-    f64::from_bits(bits)
-}
 
 pub(crate) fn u8_at(bytes: &[u8], at: usize) -> u8
     requires { ⌜ at < length (now bytes) ⌝ }
@@ -53,5 +36,5 @@ pub(crate) fn f64_at(bytes: &[u8], at: usize) -> f64
     requires { ⌜ at + 8 ≤ length (now bytes) ⌝ }
     ensures { λ r. ⌜ r ≡ float at (now (bytes .entry)) ⌝ }
 {
-    float_of(u64_at(bytes, at))
+    floats::from_bits(u64_at(bytes, at))
 }

@@ -26,12 +26,11 @@ use Rattle.ledger.specs.declared.Ledger.{Ledger}
 use Rattle.climb.specs.Climb.{Ended, allShort, reachedAt}
 use Rattle.climb.proofs.Climb.{FoundAt, ShortBelow, UpTo, after-keeps, findings}
 use Rattle.measure.specs.Target.{reaches}
-use Rattle.smallest.specs.Probes.{Probe, Run, targetPersons, probed, latest, smallestRun, evaluatedIn}
-use Rattle.smallest.specs.Smallest.{Settled, target, shortBelow, smallestAt, concluded, smallest}
-use Rattle.smallest.specs.Call.{mostRadii}
+use Rattle.probes.specs.Probes.{mostRadii, Probe, Run, targetPersons, probed, latest, smallestRun, evaluatedIn}
+use Rattle.probes.specs.Smallest.{Settled, target, shortBelow, smallestAt, concluded, smallest}
 use Rattle.demand.specs.Demand3.{Accepted, BestCandidate, Witnessed, traceOf}
-use Rattle.smallest.proofs.States.{starting, counted-once}
-use Rattle.smallest.proofs.RunLoop.{lastKm}
+use Rattle.probes.proofs.States.{starting, counted-once}
+use Rattle.probes.proofs.RunLoop.{lastKm}
 use Rattle.demand.proofs.Traces.{findingOf, WalkedTo, walked-any, walked-few, RunEnds, smallest-ends}
 use Rattle.demand.proofs.Runs.{BestLedger, BestProbe, BestRun, begun, probed-best}
 

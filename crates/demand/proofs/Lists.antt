@@ -23,10 +23,10 @@ use Rattle.ledger.specs.Ledger.{capacity, entries, find, get, risingFrom, allIn
 use Rattle.ledger.proofs.Entries.{there}
 use Rattle.ledger.proofs.Laws.{there-get, get-there, in-order, places-free}
 use Rattle.measure.specs.Target.{shareInRange}
-use Rattle.smallest.specs.declared.Smallest.{Smallest}
-use Rattle.smallest.specs.Probes.{smallestRun}
-use Rattle.smallest.specs.Smallest.{smallest}
-use Rattle.smallest.specs.Call.{mostRadii, smallestQuestions, smallestCall}
+use Rattle.probes.specs.declared.Smallest.{Smallest}
+use Rattle.probes.specs.Probes.{mostRadii, smallestRun}
+use Rattle.probes.specs.Smallest.{smallest}
+use Rattle.smallest.specs.Call.{smallestQuestions, smallestCall}
 use Rattle.demand.specs.Demand3.{Accepted, BestCandidate, Call, called, fresh, ledgerAfter, AnsweredRight, CallRight, EachRight, traceOf, probesOf, callProbes, evaluatedAt, evaluatedBy, evaluatedOf, radiiEvaluated, ListPromise}
 use Rattle.demand.proofs.Runs.{BestLedger}
 use Rattle.demand.proofs.Answers.{SettledRight, smallest-right}

@@ -26,7 +26,7 @@ use Rattle.ledger.specs.declared.Ledger.{Ledger}
 use Rattle.ledger.specs.Ledger.{entry, entries, get, put, entryInBounds, risingFrom, allInBounds}
 use Rattle.ledger.proofs.Entries.{there}
 use Rattle.ledger.proofs.Laws.{len-put, get-put-same, get-put-other, there-put, length-put, rising-put, in-bounds-put}
-use Rattle.smallest.specs.Probes.{Probe, Run, reusedAt, searchedAt, probedWith, probed, howMany, evaluatedIn}
+use Rattle.probes.specs.Probes.{Probe, Run, reusedAt, searchedAt, probedWith, probed, howMany, evaluatedIn}
 use Rattle.demand.specs.Demand3.{Accepted, BestCandidate, evaluatedAt}
 
 -- ---- a ledger of the list

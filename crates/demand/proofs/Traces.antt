@@ -19,11 +19,10 @@ use Rattle.ledger.specs.Ledger.{get}
 use Rattle.climb.specs.Climb.{Ended, allShort, reachedAt, climbRadii}
 use Rattle.climb.proofs.Climb.{Finding, after, findings, Walked, Ends, run-ends}
 use Rattle.measure.specs.Target.{reaches}
-use Rattle.smallest.specs.Probes.{Probe, Run, reusedAt, searchedAt, probedWith, probed, latestOf, latest, targetPersons, smallestRun}
+use Rattle.probes.specs.Probes.{mostRadii, Probe, Run, reusedAt, searchedAt, probedWith, probed, latestOf, latest, targetPersons, smallestRun}
 use Rattle.demand.specs.Demand3.{traceOf}
-use Rattle.smallest.specs.Call.{mostRadii}
-use Rattle.smallest.proofs.States.{starting}
-use Rattle.smallest.proofs.RunLoop.{lastKm}
+use Rattle.probes.proofs.States.{starting}
+use Rattle.probes.proofs.RunLoop.{lastKm}
 
 abbrev pub findingOf : Probe → Finding Candidate
 findingOf p = record { km = p .km; found = p .centre }

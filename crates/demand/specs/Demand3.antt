@@ -31,12 +31,12 @@ use Rattle.ledger.specs.declared.Got.the-variants.{Circle}
 use Rattle.ledger.specs.Ledger.{entries, get, risingFrom, placesFree}
 use Rattle.climb.specs.Climb.{Ended, allShort, reachedAt}
 use Rattle.measure.specs.Target.{shareInRange}
-use Rattle.smallest.specs.declared.ShortBelow.{ShortBelow}
-use Rattle.smallest.specs.declared.ShortBelow.the-variants as short-case
-use Rattle.smallest.specs.declared.Smallest.{Smallest}
-use Rattle.smallest.specs.Probes.{Probe, Run, targetPersons, smallestRun}
-use Rattle.smallest.specs.Smallest.{smallest}
-use Rattle.smallest.specs.Call.{mostRadii, SmallestOutcome, smallestCall}
+use Rattle.probes.specs.declared.ShortBelow.{ShortBelow}
+use Rattle.probes.specs.declared.ShortBelow.the-variants as short-case
+use Rattle.probes.specs.declared.Smallest.{Smallest}
+use Rattle.probes.specs.Probes.{mostRadii, Probe, Run, targetPersons, smallestRun}
+use Rattle.probes.specs.Smallest.{smallest}
+use Rattle.smallest.specs.Call.{SmallestOutcome, smallestCall}
 
 -- ---- the map
 

@@ -2,6 +2,7 @@
 ghost use mathlib.Core.Path.{_≡_};
 ghost use Rattle.floats.specs.Binary.{finite, absolute, greater, lesser, nextUp};
 ghost use lib.Ieee as Ieee;
+ghost use lib.Ieee.{binary64, ofBits, nanBits};
 ghost use mathlib.Core.Bool.{false};
 
 fn infinity() -> f64
@@ -59,4 +60,21 @@ pub fn next_up(x: f64) -> f64
         return f64::from_bits(b + 1);
     }
     f64::from_bits(b - 1)
+}
+
+// Every pattern above that of an infinity, the sign apart, is a NaN's.
+fn is_nan(bits: u64) -> bool
+    ensures { λ r. ⌜ r ≡ nanBits binary64 bits ⌝ }
+{
+    0x7ff0000000000000 < bits % 0x8000000000000000
+}
+
+// The value of any pattern; there is one NaN.
+pub fn from_bits(bits: u64) -> f64
+    ensures { λ r. ⌜ r ≡ ofBits binary64 bits ⌝ }
+{
+    if is_nan(bits) {
+        return 0.0 / 0.0;
+    }
+    f64::from_bits(bits)
 }

@@ -10,10 +10,11 @@ use Rattle.grid.specs.Questions.{gridQuestions}
 use Rattle.job.specs.declared.Applied.{Applied}
 use Rattle.commands.specs.declared.Command.{Command}
 use Rattle.commands.specs.declared.Command.the-variants.{SetGrid, End}
-use Rattle.job.specs.declared.JobState.{JobState}
+use Rattle.worlds.specs.declared.JobState.{JobState}
 use Rattle.lines.specs.declared.Line.{Line}
 use Rattle.lines.specs.Line.{textOf, refusedLine}
-use Rattle.job.specs.State.{World, State, empty, begun, Done, sizeTaken, emptyMap, emptied, placed, inWorld, first, apply, settle, applied, worldOf, stateOf, doneOf}
+use Rattle.worlds.specs.World.{World, State, empty, begun, sizeTaken, emptyMap, emptied, worldOf, stateOf}
+use Rattle.job.specs.State.{Done, placed, inWorld, first, apply, settle, applied, doneOf}
 
 decide-refused : {A : Type 0} (n : ℕ) (a : A) → 0 < n → decide n a ≡ refused n
 unfolding decide

@@ -1,5 +1,3 @@
-pub mod Whole
-pub mod Maps
 pub mod Commands
 pub mod Lent
 pub mod Stepping

@@ -8,10 +8,11 @@ use Rattle.job.specs.declared.Applied.{Applied}
 use Rattle.commands.specs.declared.Command.{Command}
 use Rattle.commands.specs.declared.Decoded.{Decoded}
 use Rattle.commands.specs.declared.Decoded.the-variants.{Read, Malformed}
-use Rattle.job.specs.declared.JobState.{JobState}
+use Rattle.worlds.specs.declared.JobState.{JobState}
 use Rattle.job.specs.declared.StepResult.{StepResult}
 use Rattle.commands.specs.Command.{decode, decodedOf}
-use Rattle.job.specs.State.{settle, applied, stateOf, doneOf}
+use Rattle.worlds.specs.World.{stateOf}
+use Rattle.job.specs.State.{settle, applied, doneOf}
 use Rattle.job.specs.Job.{after, stepWith, step, stepOf}
 
 -- what is done, and the place after it

@@ -8,7 +8,8 @@ use Rattle.grid.specs.Answer.{refused}
 use Rattle.ledger.specs.declared.Ledger.{Ledger}
 use Rattle.commands.specs.Command.{Decoding, command, malformed, decode}
 use Rattle.job.specs.declared.StepResult.{StepResult}
-use Rattle.job.specs.State.{State, empty, Done, settle, applied, stateOf}
+use Rattle.worlds.specs.World.{State, empty, stateOf}
+use Rattle.job.specs.State.{Done, settle, applied}
 use Rattle.lines.specs.Line.{refusedLine, textOf}
 
 -- a step: the job goes on from a state after a line and with the bytes left, or it ends in a state with a last line, which may be none

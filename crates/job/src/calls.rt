@@ -1,21 +1,18 @@
 // The two calls of a job, M and R: the map's part of each array is lent to them, with buffers of their own.
 use crate::Applied;
-use crate::JobState;
 use crate::change;
-use crate::state;
 use bounds::Spacing;
-use grid::Grid;
 use search::SearchAnswer;
 use smallest::SmallestAnswer;
 use smallest::SmallestResult;
+use worlds::JobState;
 ghost use mathlib.Core.Path.{_≡_};
-ghost use Prim.Native.Nat.{min};
 ghost use lib.ListN.{replicate};
-ghost use Rattle.grid.specs.Grid.{cells};
 ghost use Rattle.search.specs.Call.{searchAnswer, searchCall};
 ghost use Rattle.commands.specs.declared.Command.the-variants.{Most, Least};
 ghost use Rattle.smallest.specs.Call.{smallestCall};
-ghost use Rattle.job.specs.State.{angleCount, spacingOf, jobBuffers, LeastOf, applied, mapOf, stateOf, doneOf};
+ghost use Rattle.worlds.specs.World.{mapOf, stateOf};
+ghost use Rattle.job.specs.State.{spacingOf, jobBuffers, LeastOf, applied, doneOf};
 
 fn spacing_of(spacing: u32) -> Spacing
     ensures { λ r. ⌜ r ≡ spacingOf spacing ⌝ }
@@ -24,33 +21,6 @@ fn spacing_of(spacing: u32) -> Spacing
         return Spacing::Automatic;
     }
     Spacing::Cells(spacing)
-}
-
-// How many places of the arrays the map takes.
-fn count_places(grid: Grid) -> usize
-    ensures { λ r. ⌜ r ≡ min (cells grid) 288 ⌝ }
-{
-    let n = grid::cells(grid);
-    if n < 288 { n as usize } else { 288 }
-}
-
-fn angle_places(grid: Grid) -> usize
-    ensures { λ r. ⌜ r ≡ min (angleCount grid) 1872 ⌝ }
-{
-    let height = grid.height as u64;
-    let pairs = height * height;
-    if 1872 <= pairs {
-        return 1872;
-    }
-    let n = pairs * (grid::closing(grid) as u64 + 1);
-    if n < 1872 { n as usize } else { 1872 }
-}
-
-fn cosine_places(grid: Grid) -> usize
-    ensures { λ r. ⌜ r ≡ min (grid .height) 12 ⌝ }
-{
-    let n = grid.height as usize;
-    if n < 12 { n } else { 12 }
 }
 
 fn sums_buffer() -> [u64; 325]
@@ -72,9 +42,9 @@ fn most_of(state: JobState, spacing: u32, km: u32) -> SearchAnswer
     let counts = state.counts;
     let angles = state.angles;
     let cosines = state.cosines;
-    let n = count_places(grid);
-    let k = angle_places(grid);
-    let h = cosine_places(grid);
+    let n = worlds::count_places(grid);
+    let k = worlds::angle_places(grid);
+    let h = worlds::cosine_places(grid);
     let mut sums = sums_buffer();
     let mut near = level_buffer();
     let mut far = level_buffer();
@@ -113,9 +83,9 @@ fn least_of(state: JobState, spacing: u32, share: f64) -> SmallestResult
     let angles = state.angles;
     let cosines = state.cosines;
     let ledger = state.ledger;
-    let n = count_places(grid);
-    let k = angle_places(grid);
-    let h = cosine_places(grid);
+    let n = worlds::count_places(grid);
+    let k = worlds::angle_places(grid);
+    let h = worlds::cosine_places(grid);
     let mut sums = sums_buffer();
     let mut near = level_buffer();
     let mut far = level_buffer();
@@ -147,7 +117,7 @@ pub fn run_least(state: JobState, spacing: u32, share: f64) -> Applied
     let ledger = result.ledger;
     match answer {
         SmallestAnswer::Found(found) => {
-            let next = state::with_ledger(state, ledger);
+            let next = worlds::with_ledger(state, ledger);
             change::go_on(next, lines::least_line(found))
         }
         SmallestAnswer::Refused(number) => change::refuse(state, number),

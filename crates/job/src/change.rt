@@ -1,17 +1,17 @@
 // What each command does to the state. A refusal leaves it as it was.
 use crate::Applied;
-use crate::JobState;
-use crate::state;
 use grid::Cell;
 use grid::Grid;
 use grid::Row;
 use lines::Line;
+use worlds::JobState;
 ghost use mathlib.Core.Path.{_≡_};
 ghost use mathlib.Core.Bool.{false};
 ghost use Rattle.grid.specs.Answer.{refused};
 ghost use Rattle.commands.specs.declared.Command.the-variants.{SetGrid, SetCount, SetCosine, SetAngle, End};
 ghost use Rattle.lines.specs.Line.{textOf};
-ghost use Rattle.job.specs.State.{sizeTaken, rowOn, angleOn, settle, applied, stateOf, doneOf};
+ghost use Rattle.worlds.specs.World.{stateOf};
+ghost use Rattle.job.specs.State.{settle, applied, doneOf};
 
 pub(crate) fn refuse(state: JobState, number: u32) -> Applied
     ensures { λ r. ⌜ doneOf r ≡ settle (stateOf state) (refused number) ⌝ }
@@ -35,33 +35,6 @@ pub(crate) fn go_on(state: JobState, line: Line) -> Applied
     }
 }
 
-fn size_taken(grid: Grid) -> bool
-    ensures { λ r. ⌜ r ≡ sizeTaken grid ⌝ }
-{
-    if 24 < grid.width {
-        return false;
-    }
-    grid.height <= 12
-}
-
-fn row_on(grid: Grid, row: Row) -> bool
-    ensures { λ r. ⌜ r ≡ rowOn grid row ⌝ }
-{
-    row.0 < grid.height
-}
-
-fn angle_on(grid: Grid, centre: Row, row: Row, offset: u32) -> bool
-    ensures { λ r. ⌜ r ≡ angleOn grid centre row offset ⌝ }
-{
-    if !row_on(grid, centre) {
-        return false;
-    }
-    if !row_on(grid, row) {
-        return false;
-    }
-    offset <= grid::closing(grid)
-}
-
 // G: a second one and a grid too large are 14; then questions 1 to 3.
 pub fn set_grid(state: JobState, grid: Grid) -> Applied
     ensures { λ r. ⌜ doneOf r ≡ applied (stateOf state) (SetGrid grid) ⌝ }
@@ -70,7 +43,7 @@ pub fn set_grid(state: JobState, grid: Grid) -> Applied
     if begun {
         return refuse(state, 14);
     }
-    if !size_taken(grid) {
+    if !worlds::size_taken(grid) {
         return refuse(state, 14);
     }
     let refusal = grid::grid_refusal(grid);
@@ -78,7 +51,7 @@ pub fn set_grid(state: JobState, grid: Grid) -> Applied
         return refuse(state, refusal);
     }
     let ledger = state.ledger;
-    let next = state::with_grid(ledger, grid);
+    let next = worlds::with_grid(ledger, grid);
     go_on(next, lines::blank())
 }
 
@@ -93,7 +66,7 @@ pub fn set_count(state: JobState, cell: Cell, count: u32) -> Applied
     if !grid::on_grid(grid, cell) {
         return refuse(state, 15);
     }
-    let next = state::with_count(state, cell, count);
+    let next = worlds::with_count(state, cell, count);
     go_on(next, lines::blank())
 }
 
@@ -105,10 +78,10 @@ pub fn set_cosine(state: JobState, row: Row, cosine: f64) -> Applied
         return refuse(state, 14);
     }
     let grid = state.grid;
-    if !row_on(grid, row) {
+    if !worlds::row_on(grid, row) {
         return refuse(state, 15);
     }
-    let next = state::with_cosine(state, row, cosine);
+    let next = worlds::with_cosine(state, row, cosine);
     go_on(next, lines::blank())
 }
 
@@ -120,10 +93,10 @@ pub fn set_angle(state: JobState, centre: Row, row: Row, offset: u32, angle: f64
         return refuse(state, 14);
     }
     let grid = state.grid;
-    if !angle_on(grid, centre, row, offset) {
+    if !worlds::angle_on(grid, centre, row, offset) {
         return refuse(state, 15);
     }
-    let next = state::with_angle(state, centre, row, offset, angle);
+    let next = worlds::with_angle(state, centre, row, offset, angle);
     go_on(next, lines::blank())
 }
 

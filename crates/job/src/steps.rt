@@ -1,14 +1,15 @@
 // One step of a job: the command at a place, decoded and applied.
 use crate::Applied;
-use crate::JobState;
 use crate::StepResult;
 use crate::calls;
 use crate::change;
 use commands::Command;
 use commands::Decoded;
+use worlds::JobState;
 ghost use mathlib.Core.Path.{_≡_};
 ghost use lib.ListN.{drop};
-ghost use Rattle.job.specs.State.{applied, stateOf, doneOf};
+ghost use Rattle.worlds.specs.World.{stateOf};
+ghost use Rattle.job.specs.State.{applied, doneOf};
 ghost use Rattle.job.specs.Job.{step, stepOf};
 
 pub fn apply(state: JobState, command: Command) -> Applied

@@ -71,7 +71,7 @@ fn line_played(
     printed: &mut [u8],
     damages: bool,
 ) -> Score {
-    if text::byte_at(list, at, 0) != b'J' {
+    if cases::byte_at(list, at, 0) != b'J' {
         return score;
     }
     if next < at || list.len() < next {
@@ -88,7 +88,7 @@ fn played(list: &[u8], job: &mut [u8], printed: &mut [u8], damages: bool) -> Sco
     let mut score = fresh();
     let mut at: usize = 0;
     while at < list.len() {
-        let next = text::after_line(list, at);
+        let next = cases::after_line(list, at);
         score = line_played(score, list, at, next, job, printed, damages);
         at = next;
     }
@@ -107,13 +107,7 @@ fn read_list(name: &[u8], damages: bool) -> Score {
     let mut list = list_buffer();
     let mut job = io::large_buffer();
     let mut printed = printed_buffer();
-    let fd = os::open_read(name);
-    if fd < 0 {
-        os::fail(name);
-        return fresh();
-    }
-    let n = io::read_full(fd, &mut list);
-    libc::close(fd);
+    let n = cases::read(name, &mut list);
     played(&list[..n], &mut job, &mut printed, damages)
 }
 

@@ -1,6 +1,4 @@
 // The lists of jobs, byte by byte: README.md has their format.
-ghost use Prim.Native.Nat.{_≤_, _<_};
-ghost use lib.ListN.{length};
 
 // A job's bytes so far, and the first digit of the next one; 16 where there is none.
 pub struct Bytes {
@@ -14,33 +12,6 @@ pub(crate) fn more(n: u64) -> u64 {
         return n;
     }
     n + 1
-}
-
-// The byte at a place, 0 beyond the end.
-pub(crate) fn byte_at(text: &[u8], from: usize, i: usize) -> u8 {
-    if text.len() <= from {
-        return 0;
-    }
-    if text.len() - from <= i {
-        return 0;
-    }
-    text[from + i]
-}
-
-// The place after the line's end, or the text's.
-pub(crate) fn after_line(text: &[u8], at: usize) -> usize
-    requires { ⌜ at < length (now text) ⌝ }
-    ensures { λ r. ⌜ at < r ⌝ }
-    ensures { λ r. ⌜ r ≤ length (now (text .entry)) ⌝ }
-{
-    let mut i = at + 1;
-    while i < text.len() {
-        if text[i - 1] == b'\n' {
-            return i;
-        }
-        i += 1;
-    }
-    i
 }
 
 // The letters of the commands stand for themselves.
@@ -121,12 +92,12 @@ pub(crate) fn decoded(line: &[u8], out: &mut [u8]) -> usize {
 pub(crate) fn goes_on_with(text: &[u8], at: usize, printed: &[u8], count: usize) -> bool {
     let mut i: usize = 0;
     while i < count {
-        if byte_at(text, at, i) != byte_at(printed, 0, i) {
+        if cases::byte_at(text, at, i) != cases::byte_at(printed, 0, i) {
             return false;
         }
         i += 1;
     }
-    !is_line(byte_at(text, at, count))
+    !is_line(cases::byte_at(text, at, count))
 }
 
 // What the lines of a job begin with: most, least, refused.

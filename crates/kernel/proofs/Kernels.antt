@@ -22,7 +22,7 @@ use Rattle.grid.specs.Map.{Globe}
 use Rattle.grid.proofs.SheetOrder.{InOrder}
 use Rattle.kernel.specs.declared.Kernel.{Kernel}
 use Rattle.kernel.specs.Kernel.{reach, rowReach, kernelOf, Banded}
-use Rattle.kernel.proofs.Counts.{count-is, count-le, count-tests}
+use Rattle.lists.proofs.Counts.{count-is, count-le, count-tests}
 use Rattle.kernel.proofs.Reaches.{missed-beyond}
 
 -- ---- a row's reach

@@ -2,7 +2,6 @@ pub mod General
 pub mod Angle
 pub mod Circles
 pub mod Populations
-pub mod Counts
 pub mod Reaches
 pub mod Walks
 pub mod Kernels

@@ -18,7 +18,7 @@ use Rattle.grid.specs.Questions.{angle, sheetComplete}
 use Rattle.grid.proofs.Sizes.{Sizes, grid-sizes}
 use Rattle.grid.proofs.SheetOrder.{InOrder, in-order, offsets-first, rows-band}
 use Rattle.kernel.specs.Kernel.{reach, globeOf, sheetOf, Sheet}
-use Rattle.kernel.proofs.Counts.{count-is, count-tests, count-le}
+use Rattle.lists.proofs.Counts.{count-is, count-tests, count-le}
 
 -- whether an offset of a row is within an angle
 unfoldable pub inside : Globe → ℕ → ℕ → Float → ℕ → Bool

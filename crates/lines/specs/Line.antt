@@ -6,9 +6,9 @@ use mathlib.Core.List.{List, [], _∷_, _++_}
 use lib.ListN.{length, take, drop}
 use lib.Dec.{ltb}
 use Rattle.search.specs.declared.MostPopulous.{MostPopulous}
-use Rattle.smallest.specs.declared.ShortBelow.{ShortBelow}
-use Rattle.smallest.specs.declared.ShortBelow.the-variants as short-case
-use Rattle.smallest.specs.declared.Smallest.{Smallest}
+use Rattle.probes.specs.declared.ShortBelow.{ShortBelow}
+use Rattle.probes.specs.declared.ShortBelow.the-variants as short-case
+use Rattle.probes.specs.declared.Smallest.{Smallest}
 use Rattle.lines.specs.declared.Digits.{Digits}
 use Rattle.lines.specs.declared.Line.{Line}
 

@@ -1,9 +1,9 @@
 // The lines that a job prints.
 use crate::Line;
 use crate::decimal;
+use probes::ShortBelow;
+use probes::Smallest;
 use search::MostPopulous;
-use smallest::ShortBelow;
-use smallest::Smallest;
 ghost use mathlib.Core.Path.{_≡_};
 ghost use mathlib.Core.List.{[]};
 ghost use Prim.Native.Nat.{_+_, _*_, _≤_};

@@ -10,3 +10,4 @@ pub mod Sorts
 pub mod Insertion
 pub mod Groups
 pub mod Joins
+pub mod Counts

@@ -8,13 +8,13 @@ use borrow.Author.Tests.{ltb-false}
 use lib.Dec.{ltb}
 use lib.ListN.{length, take, length-append}
 use Rattle.search.specs.declared.MostPopulous.{MostPopulous}
-use Rattle.smallest.specs.declared.ShortBelow.{ShortBelow}
-use Rattle.smallest.specs.declared.ShortBelow.the-variants as short-case
-use Rattle.smallest.specs.declared.Smallest.{Smallest}
+use Rattle.probes.specs.declared.ShortBelow.{ShortBelow}
+use Rattle.probes.specs.declared.ShortBelow.the-variants as short-case
+use Rattle.probes.specs.declared.Smallest.{Smallest}
 use Rattle.ledger.specs.declared.Ledger.{Ledger}
 use Rattle.ledger.specs.Places.{freshLedger}
 use Rattle.lines.specs.Line.{field, fields, mostWord, leastWord, refusedWord, newline, mostFields, shortFields, refusedLine, mostLine, leastLine}
-use Rattle.job.specs.State.{State, empty}
+use Rattle.worlds.specs.World.{State, empty}
 use Rattle.job.specs.Job.{Step, step, linesFrom, job, mostBytes, program}
 use Rattle.lines.proofs.Decimals.{length-field}
 use Rattle.output.specs.Output.{written, Output, output}

@@ -10,7 +10,7 @@ use Rattle.ledger.specs.Places.{freshLedger}
 use Rattle.lines.specs.declared.Line.{Line}
 use Rattle.job.specs.declared.StepResult.{StepResult}
 use Rattle.lines.specs.Line.{textOf, refusedLine}
-use Rattle.job.specs.State.{State, empty, stateOf}
+use Rattle.worlds.specs.World.{State, empty, stateOf}
 use Rattle.job.specs.Job.{next, ended, after, step, linesFrom, job, mostBytes, program, stepOf}
 use Rattle.output.specs.Output.{written, Output, output, added}
 use Rattle.output.proofs.Written.{added-written}

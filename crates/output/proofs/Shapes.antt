@@ -13,14 +13,15 @@ use Rattle.grid.specs.declared.Grid.{Grid}
 use Rattle.grid.specs.declared.Row.{Row}
 use Rattle.grid.specs.Answer.{Answer, answered, refused, decide}
 use Rattle.search.specs.declared.MostPopulous.{MostPopulous}
-use Rattle.smallest.specs.declared.Smallest.{Smallest}
+use Rattle.probes.specs.declared.Smallest.{Smallest}
 use Rattle.smallest.specs.Call.{SmallestOutcome}
 use Rattle.grid.specs.Map.{Map}
 use Rattle.commands.specs.declared.Command.{Command}
 use Rattle.commands.specs.declared.Command.the-variants.{SetGrid, SetCount, SetCosine, SetAngle, Most, Least, End}
 use Rattle.commands.specs.Command.{Decoding, command, malformed, setGridOf, setCountOf, setCosineOf, setAngleOf, mostOf, leastOf, withOperands, endOf, decodeAs, decode}
 use Rattle.lines.specs.Line.{refusedLine, mostLine, leastLine}
-use Rattle.job.specs.State.{World, State, empty, begun, Done, searched, settled, placed, inWorld, first, apply, settle, applied}
+use Rattle.worlds.specs.World.{World, State, empty, begun}
+use Rattle.job.specs.State.{Done, searched, settled, placed, inWorld, first, apply, settle, applied}
 use Rattle.job.specs.Job.{Step, next, ended, after, stepWith, step}
 
 -- ---- what a command of so many operand bytes gives: only M and R print and go on, and M has 4

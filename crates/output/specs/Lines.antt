@@ -4,10 +4,10 @@ use mathlib.Core.Path.{_≡_}
 use mathlib.Core.List.{List, [], _++_}
 use lib.ListN.{length, take}
 use Rattle.search.specs.declared.MostPopulous.{MostPopulous}
-use Rattle.smallest.specs.declared.Smallest.{Smallest}
+use Rattle.probes.specs.declared.Smallest.{Smallest}
 use Rattle.ledger.specs.declared.Ledger.{Ledger}
 use Rattle.lines.specs.Line.{refusedLine, mostLine, leastLine}
-use Rattle.job.specs.State.{empty}
+use Rattle.worlds.specs.World.{empty}
 use Rattle.job.specs.Job.{linesFrom, job, mostBytes, program}
 use Rattle.output.specs.Output.{written}
 

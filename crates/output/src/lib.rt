@@ -48,7 +48,7 @@ fn run_steps(bytes: &[u8], out: &mut [u8]) -> usize
     requires { ⌜ length (now bytes) ≤ mostBytes ⌝ }
     ensures { λ r. ⌜ record { count = r; buffer = now (out .exit) } ≡ output (job freshLedger (now (bytes .entry))) (now (out .entry)) ⌝ }
 {
-    let mut state = job::start();
+    let mut state = worlds::start();
     let mut at: usize = 0;
     let mut count: usize = 0;
     let mut i: usize = 0;

@@ -1,249 +1,120 @@
 // Replays the list of the original's answers, answers.txt: puts each call to the module and says how many answers agree
-// and how many differ; how many lines of each tag there are, and how many are not of the format. README.md has the
-// format.
-mod ledgers;
+// and how many differ; how many lines there are, and how many are not of the format. README.md has the format.
 mod play;
-mod radii;
-mod reader;
-mod words;
+mod score;
 
-use grid::Grid;
-use ledger::Ledger;
+use cases::Map;
 use libc::STDOUT_FILENO;
-use reader::Reader;
+use score::Score;
 
-// What is known between two bytes: the reader's part, the last map's grid, its ledger as it stands, and the
-// answers by the letter of their tag.
+// What is known between two lines: the map that they have set, and what was seen.
 pub struct Replay {
-    pub reader: Reader,
-    pub grid: Grid,
-    pub ledger: Ledger,
-    pub agree: [u64; 32],
-    pub differ: [u64; 32],
+    pub map: Map,
+    pub score: Score,
 }
 
-fn fresh() -> Replay {
-    let reader = reader::fresh();
-    let grid = Grid {
-        width: 0,
-        height: 0,
-        origin_lat: 0.0,
-        lon_step: 0.0,
-        lat_step: 0.0,
-    };
-    let ledger = ledger::fresh();
-    let agree = [0u64; 32];
-    let differ = [0u64; 32];
-    Replay {
-        reader,
-        grid,
-        ledger,
-        agree,
-        differ,
+fn entries(n: u64) -> u64 {
+    if 512 < n {
+        return 0;
     }
+    n * 4 + 1
 }
 
-// Keeps a number where its tag says. Whether there was room.
-fn kept(
-    r: Reader,
-    line: &mut [u64],
-    counts: &mut [u32],
-    angles: &mut [f64],
-    cosines: &mut [f64],
-) -> bool {
-    let tag = r.tag;
+// Whether a line of this letter has its numbers; a ledger says how many by its first. As many counts, angles and cosines
+// as a map has are asked for by questions 4 and 5.
+fn is_whole(tag: u8, line: &[u64]) -> bool {
+    let n = line.len() as u64;
     match tag {
-        b'C' => words::put_short(counts, r.numbers, r.value),
-        b'A' => words::put_float(angles, r.numbers, r.value),
-        b'K' => words::put_float(cosines, r.numbers, r.value),
-        _ => words::put_word(line, r.numbers, r.value),
-    }
-}
-
-// The reader, its line wrong where a number that ends here finds no room.
-fn noted(
-    r: Reader,
-    b: u8,
-    line: &mut [u64],
-    counts: &mut [u32],
-    angles: &mut [f64],
-    cosines: &mut [f64],
-) -> Reader {
-    if !reader::ends_number(r, b) {
-        return r;
-    }
-    if kept(r, line, counts, angles, cosines) {
-        return r;
-    }
-    let mut out = r;
-    out.good = false;
-    out
-}
-
-fn is_call(tag: u8) -> bool {
-    match tag {
-        b'P' | b'S' | b'M' | b'Q' => true,
+        b'C' | b'A' | b'K' => true,
+        b'Q' | b'Z' => n == 1,
+        b'H' | b'S' => n == 2,
+        b'P' => n == 4,
+        b'G' => n == 5,
+        b'M' => n == 11,
+        b'R' => n == 27,
+        b'L' | b'E' => n == entries(cases::word_at(line, 0)),
         _ => false,
     }
 }
 
-fn scored(state: Replay, tag: u8, agrees: bool) -> Replay {
-    let mut out = state;
-    let letter = (tag % 32) as usize;
-    if letter < 32 {
-        if agrees {
-            out.agree[letter] = reader::more(state.agree[letter]);
-        } else {
-            out.differ[letter] = reader::more(state.differ[letter]);
-        }
-    }
-    out
-}
-
-// A smallest radius starts from the ledger that is kept, and leaves the one after it.
-fn least_played(
+// A line whose numbers are read: what the next ones need is kept, a call is played.
+fn played(
     state: Replay,
+    tag: u8,
     line: &[u64],
-    counts: &[u32],
-    angles: &[f64],
-    cosines: &[f64],
+    counts: &mut [u32],
+    angles: &mut [f64],
+    cosines: &mut [f64],
+    ledger: &mut [u64],
 ) -> Replay {
-    let grid = state.grid;
-    let ledger = state.ledger;
-    let after = radii::after_radius(line, grid, counts, angles, cosines, ledger);
-    let kept = after.ledger;
-    let mut out = state;
-    out.ledger = kept;
-    scored(out, b'R', after.agrees)
+    let map = state.map;
+    let score = state.score;
+    if !is_whole(tag, line) {
+        return Replay {
+            map,
+            score: score::wrong(score),
+        };
+    }
+    let agrees = play::agrees(tag, line, map, counts, angles, cosines, ledger);
+    Replay {
+        map: cases::set(map, tag, line, counts, angles, cosines),
+        score: score::scored(score, tag, agrees, cases::word_at(line, 0)),
+    }
 }
 
-// A map's grid is kept, with no ledger yet; a ledger is kept, or compared.
-fn noted_line(state: Replay, tag: u8, line: &[u64]) -> Replay {
-    let ledger = state.ledger;
-    let mut out = state;
-    if tag == b'G' {
-        out.grid = play::grid_at(line);
-        out.ledger = ledger::fresh();
-    }
-    if tag == b'L' {
-        out.ledger = ledgers::ledger_at(line);
-    }
-    if tag == b'E' {
-        return scored(state, tag, ledgers::ledger_agrees(line, ledger));
-    }
-    out
-}
-
-// After a line: what the next ones need is kept, and a call is played.
-fn played(state: Replay, line: &[u64], counts: &[u32], angles: &[f64], cosines: &[f64]) -> Replay {
-    let r = state.reader;
-    let grid = state.grid;
-    if !r.done {
-        return state;
-    }
-    if r.tag == b'R' {
-        return least_played(state, line, counts, angles, cosines);
-    }
-    if !is_call(r.tag) {
-        return noted_line(state, r.tag, line);
-    }
-    let agrees = play::agrees(r.tag, line, grid, counts, angles, cosines);
-    scored(state, r.tag, agrees)
-}
-
-// After a byte: a number is kept where it ends, and a line is played where it ends.
-fn stepped(
+fn line_played(
     state: Replay,
-    b: u8,
-    line: &mut [u64],
+    text: &[u8],
     counts: &mut [u32],
     angles: &mut [f64],
     cosines: &mut [f64],
+    ledger: &mut [u64],
 ) -> Replay {
-    let before = state.reader;
-    let r = noted(before, b, line, counts, angles, cosines);
-    let next = reader::took(r, b);
-    let mut out = state;
-    out.reader = next;
-    played(out, line, counts, angles, cosines)
+    let mut numbers = [0u64; 17856];
+    let read = cases::numbers_of(text, &mut numbers);
+    let line = cases::first_words(&numbers, read.count);
+    played(state, read.tag, line, counts, angles, cosines, ledger)
 }
 
-// The bytes of one reading, of which there are at most 65,536.
-fn stepped_all(
-    state: Replay,
-    bytes: &[u8],
-    line: &mut [u64],
+fn all_played(
+    list: &[u8],
     counts: &mut [u32],
     angles: &mut [f64],
     cosines: &mut [f64],
-) -> Replay {
-    let mut out = state;
-    let mut i: usize = 0;
-    while i < 65536 && i < bytes.len() {
-        out = stepped(out, bytes[i], line, counts, angles, cosines);
-        i += 1;
-    }
-    out
-}
-
-// One reading of the file, and whether another may follow.
-pub struct Piece {
-    pub state: Replay,
-    pub more: bool,
-}
-
-fn read_some(
-    fd: i32,
-    state: Replay,
-    line: &mut [u64],
-    counts: &mut [u32],
-    angles: &mut [f64],
-    cosines: &mut [f64],
-) -> Piece {
-    let mut buf = io::large_buffer();
-    let got = libc::read(fd, &mut buf);
-    if got <= 0 {
-        if got < 0 {
-            os::fail(b"read");
-        }
-        return Piece { state, more: false };
-    }
-    let n = io::count(got, &buf);
-    let next = stepped_all(state, &buf[..n], line, counts, angles, cosines);
-    Piece {
-        state: next,
-        more: true,
-    }
-}
-
-// A loop has to end, and nothing says that a file does: so it counts its turns down.
-fn read_all(
-    fd: i32,
-    line: &mut [u64],
-    counts: &mut [u32],
-    angles: &mut [f64],
-    cosines: &mut [f64],
-) -> Replay {
-    let mut piece = Piece {
-        state: fresh(),
-        more: true,
+    ledger: &mut [u64],
+) -> Score {
+    let mut state = Replay {
+        map: cases::none(1525, 1440, 1440),
+        score: score::none(),
     };
-    let mut turns: u64 = 1_000_000;
-    while turns > 0 && piece.more {
-        let state = piece.state;
-        piece = read_some(fd, state, line, counts, angles, cosines);
-        turns -= 1;
+    let mut at: usize = 0;
+    while at < list.len() {
+        let next = cases::after_line(list, at);
+        state = line_played(state, &list[at..next], counts, angles, cosines, ledger);
+        at = next;
     }
-    piece.state
+    state.score
+}
+
+fn list_buffer() -> [u8; 1048576] {
+    [0u8; 1048576]
 }
 
 // The arrays have room for the largest map and the longest ledger of the list.
-fn replayed(fd: i32) -> Replay {
-    let mut line = [0u64; 2049];
+fn replayed() -> Score {
+    let mut list = list_buffer();
     let mut counts = [0u32; 1440];
     let mut angles = [0.0f64; 17856];
     let mut cosines = [0.0f64; 90];
-    read_all(fd, &mut line, &mut counts, &mut angles, &mut cosines)
+    let mut ledger = [0u64; 2049];
+    let n = cases::read(b"answers.txt", &mut list);
+    all_played(
+        &list[..n],
+        &mut counts,
+        &mut angles,
+        &mut cosines,
+        &mut ledger,
+    )
 }
 
 fn text(words: &[u8]) {
@@ -256,36 +127,27 @@ fn say(words: &[u8], n: u64) {
     text(b"\n");
 }
 
-fn compared(words: &[u8], agree: u64, differ: u64) {
+// How many lines of a letter agree, and how many differ.
+fn compared(words: &[u8], score: Score, letter: u8) {
     text(words);
-    io::print_decimal(STDOUT_FILENO, agree);
+    io::print_decimal(STDOUT_FILENO, score::seen(score, letter, true));
     text(b" agree, ");
-    io::print_decimal(STDOUT_FILENO, differ);
+    io::print_decimal(STDOUT_FILENO, score::seen(score, letter, false));
     text(b" differ\n");
 }
 
 fn main() {
-    let fd = os::open_read(b"answers.txt");
-    if fd < 0 {
-        os::fail(b"answers.txt");
-        return;
-    }
-    let state = replayed(fd);
-    libc::close(fd);
-    let r = state.reader;
-    let agree = state.agree;
-    let differ = state.differ;
-    let tally = r.tally;
-    say(b"maps ", tally[7]);
-    compared(b"refused maps ", agree[17], differ[17]);
-    compared(b"circles ", agree[16], differ[16]);
-    compared(b"spacings ", agree[19], differ[19]);
-    compared(b"searches ", agree[13], differ[13]);
-    compared(b"smallest radii ", agree[18], differ[18]);
-    compared(b"ledgers after them ", agree[5], differ[5]);
-    say(b"lines ", r.lines);
-    say(b"wrong lines ", r.wrong);
-    if r.ended && r.at == reader::START {
+    let score = replayed();
+    say(b"maps ", score::seen(score, b'G', true));
+    compared(b"refused maps ", score, b'Q');
+    compared(b"circles ", score, b'P');
+    compared(b"spacings ", score, b'S');
+    compared(b"searches ", score, b'M');
+    compared(b"smallest radii ", score, b'R');
+    compared(b"ledgers after them ", score, b'E');
+    say(b"lines ", score.lines);
+    say(b"wrong lines ", score.wrong);
+    if score.ended {
         text(b"ended\n");
     }
 }

@@ -1,205 +1,189 @@
-// The calls: each is put to the module, with buffers for the largest map of the list, and every field of its answer is
-// compared with the listed one.
-use crate::radii;
-use crate::words;
-use bounds::Spacing;
-use candidates::Candidate;
-use grid::Cell;
-use grid::Col;
-use grid::Grid;
-use grid::Row;
-use kernel::CircleAnswer;
-use levels::SearchStats;
-use search::MostPopulous;
-use search::SearchAnswer;
-
-// A spacing of 0 is the automatic one.
-pub(crate) fn spacing_at(line: &[u64], at: usize) -> Spacing {
-    let side = words::short_at(line, at);
-    if side == 0 {
-        return Spacing::Automatic;
-    }
-    Spacing::Cells(side)
-}
-
-pub(crate) fn grid_at(line: &[u64]) -> Grid {
-    Grid {
-        width: words::short_at(line, 0),
-        height: words::short_at(line, 1),
-        origin_lat: words::float_at(line, 2),
-        lon_step: words::float_at(line, 3),
-        lat_step: words::float_at(line, 4),
-    }
-}
+// The calls: each is put to the module, with buffers for the largest map of the list. It agrees where it returns the
+// listed number, 0 or that of a refusal, and after an answer where every field is the listed one.
+use cases::Map;
 
 // P: km, cell; population.
-pub(crate) fn circle_agrees(
+fn circle(
     line: &[u64],
-    grid: Grid,
+    map: Map,
     counts: &[u32],
     angles: &[f64],
     cosines: &[f64],
+    listed: u32,
 ) -> bool {
     let mut sums = [0u64; 1525];
-    let km = words::short_at(line, 0);
-    let centre = Cell {
-        row: Row(words::short_at(line, 1)),
-        col: Col(words::short_at(line, 2)),
-    };
-    match kernel::circle(grid, counts, angles, cosines, &mut sums, km, centre) {
-        CircleAnswer::Population(people) => people == words::word_at(line, 3),
-        CircleAnswer::Refused(number) => false,
+    let mut people: u64 = 0;
+    let number = cases::circle(map, counts, angles, cosines, line, &mut sums, &mut people);
+    if number != 0 {
+        return number == listed;
     }
+    listed == 0 && people == cases::word_at(line, 3)
 }
 
 // S: km; the automatic spacing.
-pub(crate) fn spacing_agrees(line: &[u64], grid: Grid) -> bool {
-    let km = words::short_at(line, 0) as f64;
-    bounds::initial_spacing(grid, km) as u64 == words::word_at(line, 1)
+fn spacing(line: &[u64], map: Map) -> bool {
+    let km = cases::short_at(line, 0) as f64;
+    bounds::initial_spacing(map.grid, km) as u64 == cases::word_at(line, 1)
 }
 
-pub(crate) fn centre_agrees(line: &[u64], centre: Candidate) -> bool {
-    if centre.row.0 as u64 != words::word_at(line, 0) {
+fn found_agrees(line: &[u64], words: &[u64; 10], tolerance: f64) -> bool {
+    if cases::bits_of(tolerance) != cases::word_at(line, 10) {
         return false;
     }
-    if centre.col.0 as u64 != words::word_at(line, 1) {
-        return false;
-    }
-    centre.population == words::word_at(line, 2)
+    cases::differing(words, 0, line, 2, 8) == 0
 }
 
-pub(crate) fn counts_agree(line: &[u64], stats: SearchStats) -> bool {
-    if stats.levels as u64 != words::word_at(line, 0) {
-        return false;
-    }
-    if stats.blocks_examined != words::word_at(line, 1) {
-        return false;
-    }
-    if stats.blocks_pruned != words::word_at(line, 2) {
-        return false;
-    }
-    if stats.circles_evaluated != words::word_at(line, 3) {
-        return false;
-    }
-    stats.kernels_built == words::word_at(line, 4)
-}
-
-// The radius is the one asked for.
-fn found_agrees(line: &[u64], found: MostPopulous) -> bool {
-    let centre = found.centre;
-    let tally = found.tally;
-    let stats = tally.stats;
-    if found.radius.0 as u64 != words::word_at(line, 1) {
-        return false;
-    }
-    if !centre_agrees(words::from(line, 2), centre) {
-        return false;
-    }
-    if !counts_agree(words::from(line, 5), stats) {
-        return false;
-    }
-    words::has_bits(found.tolerance_persons, words::word_at(line, 10))
-}
-
-// M: spacing, km; centre, counts, tolerance.
-pub(crate) fn search_agrees(
+// M: spacing, 0 for the automatic one, km; centre, counts, tolerance.
+fn search(
     line: &[u64],
-    grid: Grid,
+    map: Map,
     counts: &[u32],
     angles: &[f64],
     cosines: &[f64],
+    listed: u32,
 ) -> bool {
     let mut sums = [0u64; 1525];
     let mut near = [0u64; 1440];
     let mut far = [0u64; 1440];
-    let spacing = spacing_at(line, 0);
-    let km = words::short_at(line, 1);
-    match search::most_populous(
-        grid,
+    let mut words = [0u64; 10];
+    let mut tolerance = 0.0;
+    let side = cases::short_at(line, 0);
+    let km = cases::short_at(line, 1);
+    let number = cases::search(
+        map,
         counts,
         angles,
         cosines,
         km,
-        spacing,
+        side == 0,
+        side,
         &mut sums,
         &mut near,
         &mut far,
-    ) {
-        SearchAnswer::Found(found) => found_agrees(line, found),
-        SearchAnswer::Refused(number) => false,
+        &mut words,
+        &mut tolerance,
+    );
+    if number != 0 {
+        return number == listed;
     }
+    listed == 0 && found_agrees(line, &words, tolerance)
 }
 
-fn circle_refused(answer: CircleAnswer, listed: u64) -> bool {
-    match answer {
-        CircleAnswer::Population(people) => false,
-        CircleAnswer::Refused(number) => number as u64 == listed,
-    }
+// The 25 numbers of a smallest radius, in the order in which a line has them.
+fn in_order(w: &[u64; 19], f: &[f64; 6]) -> [u64; 25] {
+    [
+        w[0],
+        w[1],
+        w[2],
+        w[3],
+        cases::bits_of(f[0]),
+        cases::bits_of(f[1]),
+        cases::bits_of(f[2]),
+        cases::bits_of(f[3]),
+        w[4],
+        w[5],
+        w[6],
+        w[7],
+        cases::bits_of(f[4]),
+        w[8],
+        w[9],
+        w[10],
+        w[11],
+        cases::bits_of(f[5]),
+        w[12],
+        w[13],
+        w[14],
+        w[15],
+        w[16],
+        w[17],
+        w[18],
+    ]
 }
 
-fn search_refused(answer: SearchAnswer, listed: u64) -> bool {
-    match answer {
-        SearchAnswer::Found(found) => false,
-        SearchAnswer::Refused(number) => number as u64 == listed,
-    }
-}
-
-// Q: the number by which a circle, a search and a smallest radius are refused, whatever they ask.
-pub(crate) fn refusal_agrees(
+// R: spacing, 0 for the automatic one, share; then the answer.
+fn smallest(
     line: &[u64],
-    grid: Grid,
+    map: Map,
     counts: &[u32],
     angles: &[f64],
     cosines: &[f64],
+    ledger: &mut [u64],
+    listed: u32,
 ) -> bool {
     let mut sums = [0u64; 1525];
     let mut near = [0u64; 1440];
     let mut far = [0u64; 1440];
-    let listed = words::word_at(line, 0);
-    let centre = Cell {
-        row: Row(0),
-        col: Col(0),
-    };
-    let circle = kernel::circle(grid, counts, angles, cosines, &mut sums, 1, centre);
-    if !circle_refused(circle, listed) {
-        return false;
-    }
-    let most = search::most_populous(
-        grid,
+    let mut words = [0u64; 19];
+    let mut floats = [0.0f64; 6];
+    let side = cases::short_at(line, 0);
+    let share = cases::float_at(line, 1);
+    let number = cases::smallest(
+        map,
         counts,
         angles,
         cosines,
-        1,
-        Spacing::Automatic,
+        share,
+        side == 0,
+        side,
+        ledger,
         &mut sums,
         &mut near,
         &mut far,
+        &mut words,
+        &mut floats,
     );
-    if !search_refused(most, listed) {
-        return false;
+    if number != 0 {
+        return number == listed;
     }
-    radii::is_refused(listed, grid, counts, angles, cosines)
+    let answer = in_order(&words, &floats);
+    listed == 0 && cases::differing(&answer, 0, line, 2, 25) == 0
 }
 
-// Whether the module answers the call of a line as listed, on the map's part of each array.
-pub(crate) fn agrees(
+// What leaves the ledger as it is. E: the ledger after the last smallest radius. A line that only sets the map agrees.
+fn agrees_with(
     tag: u8,
     line: &[u64],
-    grid: Grid,
+    map: Map,
     counts: &[u32],
     angles: &[f64],
     cosines: &[f64],
+    ledger: &[u64],
 ) -> bool {
-    let width = grid.width as u64;
-    let height = grid.height as u64;
-    let people = words::first_shorts(counts, words::counts_of(width, height));
-    let sheet = words::first_floats(angles, words::angles_of(width, height));
-    let narrowing = words::first_floats(cosines, height);
     match tag {
-        b'P' => circle_agrees(line, grid, people, sheet, narrowing),
-        b'S' => spacing_agrees(line, grid),
-        b'M' => search_agrees(line, grid, people, sheet, narrowing),
-        b'Q' => refusal_agrees(line, grid, people, sheet, narrowing),
-        _ => false,
+        b'P' => circle(line, map, counts, angles, cosines, 0),
+        b'S' => spacing(line, map),
+        b'M' => search(line, map, counts, angles, cosines, 0),
+        b'E' => cases::differing(ledger, 0, line, 0, line.len()) == 0,
+        _ => true,
     }
+}
+
+// L sets the ledger; Q: the number by which a circle, a search and a smallest radius are refused, whatever they ask.
+pub(crate) fn agrees(
+    tag: u8,
+    line: &[u64],
+    map: Map,
+    counts: &[u32],
+    angles: &[f64],
+    cosines: &[f64],
+    ledger: &mut [u64],
+) -> bool {
+    if tag == b'L' {
+        cases::copy(line, ledger, 0);
+        return true;
+    }
+    if tag == b'R' {
+        return smallest(line, map, counts, angles, cosines, ledger, 0);
+    }
+    if tag == b'Q' {
+        let listed = cases::short_at(line, 0);
+        if !smallest(line, map, counts, angles, cosines, ledger, listed) {
+            return false;
+        }
+        if !circle(line, map, counts, angles, cosines, listed) {
+            return false;
+        }
+        return search(line, map, counts, angles, cosines, listed);
+    }
+    agrees_with(tag, line, map, counts, angles, cosines, ledger)
 }

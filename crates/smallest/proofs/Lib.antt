@@ -1,7 +1,2 @@
 pub mod Ring
-pub mod States
-pub mod Kept
-pub mod AnySheet
-pub mod Probes
-pub mod RunLoop
 pub mod SmallestCalls

@@ -34,17 +34,18 @@ use Rattle.ledger.specs.Ledger.{ledgerInOrder, placesFree}
 use Rattle.climb.specs.declared.Bracket.{Bracket}
 use Rattle.measure.specs.declared.Target.{Target}
 use Rattle.measure.specs.Target.{predicateSlackPersons, shareInRange, targetOf}
-use Rattle.smallest.specs.declared.RunEnd.{RunEnd}
-use Rattle.smallest.specs.declared.RunState.{RunState}
-use Rattle.smallest.specs.declared.Smallest.{Smallest}
+use Rattle.probes.specs.declared.RunEnd.{RunEnd}
+use Rattle.probes.specs.declared.RunState.{RunState}
+use Rattle.probes.specs.declared.Smallest.{Smallest}
 use Rattle.smallest.specs.declared.SmallestResult.{SmallestResult}
 use Rattle.smallest.specs.declared.SmallestAnswer.the-variants.{Found}
-use Rattle.smallest.specs.Probes.{targetPersons}
-use Rattle.smallest.specs.Smallest.{Settled, target, smallest}
-use Rattle.smallest.specs.Call.{mostRadii, smallestQuestions, smallestCall, smallestAnswer}
-use Rattle.smallest.specs.State.{answerBy, settledBy}
-use Rattle.smallest.specs.Probing.{CanRun, Ran, CanConclude, CanSettle, IsSettled, ownQuestions}
-use Rattle.smallest.proofs.Probes.{people-exact}
+use Rattle.probes.specs.Probes.{mostRadii, targetPersons}
+use Rattle.probes.specs.Smallest.{Settled, target, smallest}
+use Rattle.smallest.specs.Call.{smallestQuestions, smallestCall, smallestAnswer}
+use Rattle.probes.specs.State.{answerBy, settledBy}
+use Rattle.probes.specs.Probing.{CanRun, Ran}
+use Rattle.smallest.specs.Settling.{CanConclude, CanSettle, IsSettled, ownQuestions}
+use Rattle.probes.proofs.Probes.{people-exact}
 
 -- ---- the questions
 
@@ -184,13 +185,13 @@ module _ {g : Grid} {angles cosines : List Float} {sums near far : List ℕ} {l 
         }
 
     pub is-settled : {a : Smallest} → a ≡ answerBy (sheetOf g angles) t slack people (e .bracket) (e .state)
-        → IsSettled (smallest (mapOf g angles cosines sums) spacing share l) (record { answer = Found a; ledger = e .state .ledger })
+        → IsSettled (smallest (mapOf g angles cosines sums) spacing share l) (record { answer = Found a; ledger = e .ledger })
     unfolding settledBy target
     is-settled {a} f =
         let m = mapOf g angles cosines sums in
-        let same : settledBy m share (e .bracket) (e .state) ≡ smallest m spacing share l = rw same-share at (ran .same) in
+        let same : settledBy m share (e .bracket) (e .state) (e .ledger) ≡ smallest m spacing share l = rw same-share at (ran .same) in
         let width : slack ≡ predicateSlackPersons g (whole (total m)) = k ∙ ap (λ (x : Target). predicateSlackPersons g (x .total)) the-target in
-        let whole-answer : a ≡ settledBy m share (e .bracket) (e .state) .answer
+        let whole-answer : a ≡ settledBy m share (e .bracket) (e .state) (e .ledger) .answer
         = f ∙ answer-sheet g angles cosines t slack people (e .bracket) (e .state) ∙ rw (the-target, width, all-people)
         in
         record { answer = rw (← same) (ap Found whole-answer); ledger = ap (λ (x : Settled). x .ledger) same }

@@ -11,14 +11,11 @@ use Rattle.search.specs.Call.{Buffers, buffersFit, buffersAfter}
 use Rattle.ledger.specs.declared.Ledger.{Ledger}
 use Rattle.ledger.specs.Ledger.{ledgerInOrder, placesFree}
 use Rattle.measure.specs.Target.{shareInRange}
-use Rattle.smallest.specs.declared.Smallest.{Smallest}
+use Rattle.probes.specs.declared.Smallest.{Smallest}
 use Rattle.smallest.specs.declared.SmallestAnswer.{SmallestAnswer}
 use Rattle.smallest.specs.declared.SmallestAnswer.the-variants as smallest-answer
-use Rattle.smallest.specs.Smallest.{smallest}
-
--- the most radii that a call probes
-abbrev pub mostRadii : ℕ
-mostRadii = 28
+use Rattle.probes.specs.Probes.{mostRadii}
+use Rattle.probes.specs.Smallest.{smallest}
 
 unfoldable pub smallestQuestions : Map → Spacing → Float → Ledger → Buffers → List Question
 smallestQuestions m spacing share l lent =

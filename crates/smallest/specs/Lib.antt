@@ -1,6 +1,3 @@
-pub mod Probes
-pub mod Smallest
 pub mod Call
-pub mod State
-pub mod Probing
+pub mod Settling
 pub mod Ring

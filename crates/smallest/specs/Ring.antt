@@ -1,59 +1,33 @@
 -- The nine marked facts of document 01 about the ring of four cells.
-use Prim.Native.Nat.{ℕ}
 use mathlib.Core.Path.{_≡_}
-use mathlib.Core.Bool.{false}
 use mathlib.Core.List.{List}
-use lib.IntN.{negsuc}
-use lib.Ieee.{Float, fin}
+use lib.Ieee.{Float}
 use Rattle.floats.specs.Binary.{whole}
 use Rattle.grid.specs.Grid.{cell}
 use Rattle.grid.specs.Map.{Map}
 use Rattle.grid.specs.Answer.{Answer, answered, refused}
-use Rattle.candidates.specs.declared.Candidate.{Candidate}
 use Rattle.bounds.specs.declared.Spacing.the-variants.{Cells}
 use Rattle.candidates.specs.Candidate.{candidateOf}
 use Rattle.search.specs.Ring.{ring, emptyRing, ringBuffers, RingSearches}
 use Rattle.ledger.specs.declared.Entry.{Entry}
-use Rattle.smallest.specs.declared.Ambiguity.{Ambiguity}
-use Rattle.smallest.specs.declared.Ambiguity.the-variants as ambiguity-case
-use Rattle.smallest.specs.declared.ShortBelow.{ShortBelow}
-use Rattle.smallest.specs.declared.ShortBelow.the-variants as short-case
-use Rattle.smallest.specs.declared.Smallest.{Smallest}
+use Rattle.probes.specs.declared.Ambiguity.{Ambiguity}
+use Rattle.probes.specs.declared.Ambiguity.the-variants as ambiguity-case
+use Rattle.probes.specs.declared.ShortBelow.the-variants as short-case
+use Rattle.probes.specs.declared.Smallest.{Smallest}
+use Rattle.probes.specs.Ring.{LeastLine, lineOf, half, shortAt}
 use Rattle.smallest.specs.Call.{smallestCall}
 
 -- a smallest-radius call with spacing 4 from a fresh ledger, whose places may hold anything
 unfoldable pub ringSmallest : Map → Float → List Entry → Answer Smallest
 ringSmallest m share places = smallestCall m (Cells 4) share (record { len = 0; places = places }) ringBuffers .answer
 
--- the values that the line `least` prints
-pub record LeastLine : Type 0 where
-  pub km : ℕ
-  pub centre : Candidate
-  pub short : ShortBelow
-  pub evaluated : ℕ
-  pub reused : ℕ
-
 unfoldable pub leastLine : Answer Smallest → Answer LeastLine
 leastLine (refused n) = refused n
-leastLine (answered s) =
-    answered
-    (record {
-      km = s .«radius_km» .0;
-      centre = s .centre;
-      short = s .«short_below»;
-      evaluated = s .stats .«radii_evaluated»;
-      reused = s .stats .«radii_reused»;
-    })
+leastLine (answered s) = answered (lineOf s)
 
 unfoldable pub ambiguityOf : Answer Smallest → Answer Ambiguity
 ambiguityOf (refused n) = refused n
 ambiguityOf (answered s) = answered (s .ambiguity)
-
-abbrev pub half : Float
-half = fin false 1 (negsuc 0)
-
-abbrev pub shortAt : ℕ → ℕ → ShortBelow
-shortAt km people = short-case.Witness (record { 0 = km }) people
 
 pub record MarkedFacts : Type 0 where
   -- (1) the line `most`, (2) to (4) at 10,007, 0 and 20,016 km, (5) to (7) automatic spacing

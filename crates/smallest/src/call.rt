@@ -1,6 +1,4 @@
 // The smallest-radius call: it puts its questions, fills the sums, runs, and answers from where the run has ended.
-use crate::RunState;
-use crate::Smallest;
 use crate::SmallestAnswer;
 use crate::SmallestResult;
 use bounds::Spacing;
@@ -10,6 +8,8 @@ use grid::RadiusKm;
 use grid::Row;
 use ledger::Ledger;
 use measure::Target;
+use probes::RunState;
+use probes::Smallest;
 ghost use mathlib.Core.Path.{_≡_};
 ghost use mathlib.Core.Bool.{true, cond};
 ghost use Rattle.grid.specs.Answer.{firstNo, shown};
@@ -17,10 +17,10 @@ ghost use Rattle.floats.specs.Binary.{whole};
 ghost use Rattle.kernel.specs.Circle.{coversWholeGrid};
 ghost use Rattle.kernel.specs.Kernel.{sheetOf, OnSheet};
 ghost use Rattle.levels.specs.Work.{mapOf};
-ghost use Rattle.smallest.specs.Smallest.{smallest};
+ghost use Rattle.probes.specs.Smallest.{smallest};
 ghost use Rattle.smallest.specs.Call.{smallestQuestions, smallestAnswer, smallestCall};
-ghost use Rattle.smallest.specs.State.{answerBy};
-ghost use Rattle.smallest.specs.Probing.{CanConclude, CanSettle, IsSettled, ownQuestions};
+ghost use Rattle.probes.specs.State.{answerBy};
+ghost use Rattle.smallest.specs.Settling.{CanConclude, CanSettle, IsSettled, ownQuestions};
 
 // The most radii that a call probes.
 const MOST_RADII: usize = 28;
@@ -87,7 +87,7 @@ fn settle(
     let people = table::total(grid, sums);
     let target = measure::target_of(share, people);
     let slack = measure::predicate_slack_persons(grid, target.total);
-    let end = crate::run::run(
+    let end = probes::run(
         grid,
         angles,
         cosines,
@@ -103,7 +103,7 @@ fn settle(
     let bracket = end.bracket;
     let state = end.state;
     let found = conclude(grid, angles, target, slack, people, bracket, state);
-    let kept = state.ledger;
+    let kept = end.ledger;
     SmallestResult {
         answer: SmallestAnswer::Found(found),
         ledger: kept,

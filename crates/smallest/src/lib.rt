@@ -1,52 +1,10 @@
-// The smallest radius whose fullest circle reaches a share of the people, and what the call answers.
+// The smallest-radius call: the smallest radius whose fullest circle reaches a share of the people, or a refusal.
 
 mod call;
-mod probe;
-mod run;
-mod state;
 
 pub use call::smallest_radius;
-use candidates::Candidate;
-use climb::Bracket;
-use grid::RadiusKm;
 use ledger::Ledger;
-use levels::SearchStats;
-use measure::Target;
-
-// The probe that fell short one kilometre below the answer.
-pub enum ShortBelow {
-    Witness { km: RadiusKm, population: u64 },
-    Absent,
-}
-
-// The probes whose populations the slack cannot separate from the target.
-pub enum Ambiguity {
-    Radii {
-        lowest_km: RadiusKm,
-        highest_km: RadiusKm,
-        radii: u32,
-    },
-    Absent,
-}
-
-pub struct SmallestStats {
-    pub radii_evaluated: u64,
-    pub radii_reused: u64,
-    pub searched: SearchStats,
-}
-
-pub struct Smallest {
-    pub radius_km: RadiusKm,
-    pub centre: Candidate,
-    pub target: Target,
-    pub share_achieved: f64,
-    pub short_below: ShortBelow,
-    pub covers_whole_grid: bool,
-    pub predicate_slack_persons: f64,
-    pub ambiguity: Ambiguity,
-    pub tolerance_persons: f64,
-    pub stats: SmallestStats,
-}
+use probes::Smallest;
 
 pub enum SmallestAnswer {
     Found(Smallest),
@@ -57,21 +15,4 @@ pub enum SmallestAnswer {
 pub struct SmallestResult {
     pub answer: SmallestAnswer,
     pub ledger: Ledger,
-}
-
-// A run after some probes: the ledger, whether the latest probe reached, what the lowest that reached found, the latest that fell short,
-// the ambiguity and the counts.
-pub struct RunState {
-    pub ledger: Ledger,
-    pub reached: bool,
-    pub found: Candidate,
-    pub short: ShortBelow,
-    pub ambiguity: Ambiguity,
-    pub stats: SmallestStats,
-}
-
-// Where a run has ended.
-pub struct RunEnd {
-    pub bracket: Bracket,
-    pub state: RunState,
 }

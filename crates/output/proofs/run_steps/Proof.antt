@@ -4,7 +4,7 @@ use Prim.Native.Nat.{_+_, _-_, _≤_}
 use native.Mathlib.Omega.{arith}
 use mathlib.Core.Path.{_≡_}
 use lib.ListN.{length}
-use Rattle.job.specs.State.{stateOf}
+use Rattle.worlds.specs.World.{stateOf}
 use Rattle.job.specs.Job.{mostBytes}
 use Rattle.output.proofs.Running.{Under, under-none, under-more, under-ended, under-all}
 use Rattle.output.proofs.run_steps.Statement.{statement}

@@ -9,12 +9,12 @@ use Rattle.commands.proofs.bytes.f64_at.Tie as tie
 u64-at-requires : tie.Need-u64-at-requires
 u64-at-requires c κs = search needs
 
-float-of-requires : tie.Need-float-of-requires
-float-of-requires c κs = search needs
+from-bits-requires : tie.Need-from-bits-requires
+from-bits-requires c κs = search needs
 
 returns : tie.Need-returns
 unfolding float
-returns c = c .float-of .ensures ∙ ap (ofBits binary64) (c .before .u64-at .ensures)
+returns c = c .from-bits .ensures ∙ ap (ofBits binary64) (c .before .u64-at .ensures)
 
 pub f64-at-spec : {M : Type 1} → statement M
-f64-at-spec = tie.close (tie.spec u64-at-requires float-of-requires returns)
+f64-at-spec = tie.close (tie.spec u64-at-requires from-bits-requires returns)

@@ -1,8 +1,8 @@
 -- The smallest-radius call on the map's part of each array.
-use Rattle.grid.specs.Grid.{cells}
-use Rattle.job.proofs.Lent.{front-fits, front-counted, front-same, map-lent, buffers-lent, smallest-lent}
-use Rattle.job.proofs.Whole.{counts-whole, angles-whole, cosines-whole}
-use Rattle.job.specs.State.{angleCount, spacingOf, jobBuffers, mapOf}
+use Rattle.worlds.proofs.Fronts.{counts-fit, counts-lent, angles-fit, angles-lent, cosines-fit, cosines-lent, map-lent}
+use Rattle.job.proofs.Lent.{buffers-lent, smallest-lent}
+use Rattle.worlds.specs.World.{mapOf}
+use Rattle.job.specs.State.{spacingOf, jobBuffers}
 use borrow.Author.Needs.{needs}
 use Rattle.job.proofs.calls.least_of.Statement.{statement}
 use Rattle.job.proofs.calls.least_of.Tie as tie
@@ -33,43 +33,42 @@ array-share-prefix-counts c =
     let start = c .before .before .before .before .before .before .before .before .before .before .before .before in
     let count-places = c .before .before .before .before .before .before .count-places in
     let state = start .args .state in
-    front-fits (state .counts) 288 (cells (state .grid)) (count-places .result) (counts-whole state _ (start .good .0)) (count-places .ensures)
+    counts-fit state _ (start .good .0) (count-places .result) (count-places .ensures)
 
 slice-aggregate-smallest-radius : tie.Need-slice-aggregate-smallest-radius
 slice-aggregate-smallest-radius c =
     let start = c .before .before .before .before .before .before .before .before .before .before .before .before .before in
     let count-places = c .before .before .before .before .before .before .before .count-places in
     let state = start .args .state in
-    front-counted (state .counts) 288 (cells (state .grid)) (count-places .result) (counts-whole state _ (start .good .0)) (count-places .ensures)
+    counts-lent state _ (start .good .0) (count-places .result) (count-places .ensures)
 
 array-share-prefix-angles : tie.Need-array-share-prefix-angles
 array-share-prefix-angles c =
     let start = c .before .before .before .before .before .before .before .before .before .before .before .before .before in
     let angle-places = c .before .before .before .before .before .before .angle-places in
     let state = start .args .state in
-    front-fits (state .angles) 1872 (angleCount (state .grid)) (angle-places .result) (angles-whole state _ (start .good .0)) (angle-places .ensures)
+    angles-fit state _ (start .good .0) (angle-places .result) (angle-places .ensures)
 
 slice-aggregate-smallest-radius-2 : tie.Need-slice-aggregate-smallest-radius-2
 slice-aggregate-smallest-radius-2 c =
     let start = c .before .before .before .before .before .before .before .before .before .before .before .before .before .before in
     let angle-places = c .before .before .before .before .before .before .before .angle-places in
     let state = start .args .state in
-    front-counted (state .angles) 1872 (angleCount (state .grid)) (angle-places .result) (angles-whole state _ (start .good .0))
-    (angle-places .ensures)
+    angles-lent state _ (start .good .0) (angle-places .result) (angle-places .ensures)
 
 array-share-prefix-cosines : tie.Need-array-share-prefix-cosines
 array-share-prefix-cosines c =
     let start = c .before .before .before .before .before .before .before .before .before .before .before .before .before .before in
     let cosine-places = c .before .before .before .before .before .before .cosine-places in
     let state = start .args .state in
-    front-fits (state .cosines) 12 (state .grid .height) (cosine-places .result) (cosines-whole state _ (start .good .0)) (cosine-places .ensures)
+    cosines-fit state _ (start .good .0) (cosine-places .result) (cosine-places .ensures)
 
 slice-aggregate-smallest-radius-3 : tie.Need-slice-aggregate-smallest-radius-3
 slice-aggregate-smallest-radius-3 c =
     let start = c .before .before .before .before .before .before .before .before .before .before .before .before .before .before .before in
     let cosine-places = c .before .before .before .before .before .before .before .cosine-places in
     let state = start .args .state in
-    front-counted (state .cosines) 12 (state .grid .height) (cosine-places .result) (cosines-whole state _ (start .good .0)) (cosine-places .ensures)
+    cosines-lent state _ (start .good .0) (cosine-places .result) (cosine-places .ensures)
 
 slice-aggregate-smallest-radius-4 : tie.Need-slice-aggregate-smallest-radius-4
 slice-aggregate-smallest-radius-4 c = search needs
@@ -96,12 +95,9 @@ returns c =
     let start = c .before .before .before .before .before .before .before .before .before .before .before .before .before .before .before .before .before .before .before .before .before .before in
     let state = start .args .state in
     smallest-lent (mapOf state) (spacingOf (start .args .spacing)) (start .args .share) (state .ledger) jobBuffers (smallest-radius .result) _ _ _ _
-    (smallest-radius .ensures) (map-lent state _ _ _
-    (front-same (state .counts) 288 (cells (state .grid)) (count-places .result) (counts-whole state _ (start .good .0)) (count-places .ensures))
-    (front-same (state .angles) 1872 (angleCount (state .grid)) (angle-places .result) (angles-whole state _ (start .good .0))
-    (angle-places .ensures)) (front-same (state .cosines) 12 (state .grid .height) (cosine-places .result) (cosines-whole state _ (start .good .0))
-    (cosine-places .ensures)))
-    (spacing-of .ensures) (buffers-lent state _ _ _ (sums-buffer .ensures) (level-buffer .ensures) (level-buffer2 .ensures))
+    (smallest-radius .ensures) (map-lent state _ (start .good .0) (count-places .result) (angle-places .result) (cosine-places .result) (count-places .ensures)
+    (angle-places .ensures) (cosine-places .ensures))
+    (spacing-of .ensures) (buffers-lent _ _ _ (sums-buffer .ensures) (level-buffer .ensures) (level-buffer2 .ensures))
 
 pub least-of-spec : {M : Type 1} → statement M
 least-of-spec =

@@ -5,7 +5,8 @@ use Rattle.job.proofs.Commands.{goneOn, too-early, refused-there, gone-
 use Rattle.job.proofs.Lent.{least-found, least-refused}
 use Rattle.commands.specs.declared.Command.the-variants.{Least}
 use Rattle.lines.specs.Line.{leastLine}
-use Rattle.job.specs.State.{first, mapOf}
+use Rattle.worlds.specs.World.{mapOf}
+use Rattle.job.specs.State.{first}
 use borrow.Author.Needs.{needs}
 use Rattle.job.proofs.calls.run_least.Statement.{statement}
 use Rattle.job.proofs.calls.run_least.Tie as tie
@@ -26,7 +27,7 @@ enum-known-answer : tie.Need-enum-known-answer
 enum-known-answer c = search needs
 
 with-ledger-requires : tie.Need-with-ledger-requires
-with-ledger-requires c κs = not-false _ (c .before .before .before .before .before .if1 .left)
+with-ledger-requires c κs = search needs
 
 least-line-requires : tie.Need-least-line-requires
 least-line-requires c κs = search needs

@@ -5,7 +5,8 @@ use Rattle.job.proofs.Commands.{goneOn, state-begun, too-early, refused
 use Rattle.job.proofs.Lent.{most-found, most-refused}
 use Rattle.commands.specs.declared.Command.the-variants.{Most}
 use Rattle.lines.specs.Line.{mostLine}
-use Rattle.job.specs.State.{first, worldOf}
+use Rattle.worlds.specs.World.{worldOf}
+use Rattle.job.specs.State.{first}
 use borrow.Author.Needs.{needs}
 use Rattle.job.proofs.calls.run_most.Statement.{statement}
 use Rattle.job.proofs.calls.run_most.Tie as tie

@@ -1,5 +1,6 @@
 -- A by its branches: too early, off the grid, done.
-use Rattle.job.specs.State.{angleOn, withMap, withAngle, inWorld, first, mapOf, worldOf}
+use Rattle.worlds.specs.World.{angleOn, withMap, withAngle, mapOf, worldOf}
+use Rattle.job.specs.State.{inWorld, first}
 use mathlib.Core.Path.{refl, sym, _∙_}
 use borrow.Author.Tests.{not-true, not-false}
 use Rattle.job.proofs.Commands.{goneOn, too-early, off-grid, on-grid}
@@ -37,7 +38,7 @@ returns-2 c =
     (not-false _ (c .before .before .before .before .if1 .left)) (sym (c .before .before .angle-on .ensures) ∙ not-true _ (c .before .if2 .taken))
 
 with-angle-requires : tie.Need-with-angle-requires
-with-angle-requires c κs = not-false _ (c .before .before .before .if1 .left)
+with-angle-requires c κs = search needs
 
 blank-requires : tie.Need-blank-requires
 blank-requires c κs = search needs

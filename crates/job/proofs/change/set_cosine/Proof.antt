@@ -1,5 +1,6 @@
 -- K by its branches: too early, off the grid, done.
-use Rattle.job.specs.State.{rowOn, withMap, withCosine, inWorld, first, mapOf, worldOf}
+use Rattle.worlds.specs.World.{rowOn, withMap, withCosine, mapOf, worldOf}
+use Rattle.job.specs.State.{inWorld, first}
 use mathlib.Core.Path.{refl, sym, _∙_}
 use borrow.Author.Tests.{not-true, not-false}
 use Rattle.job.proofs.Commands.{goneOn, too-early, off-grid, on-grid}
@@ -34,7 +35,7 @@ returns-2 c =
     (sym (c .before .before .row-on .ensures) ∙ not-true _ (c .before .if2 .taken))
 
 with-cosine-requires : tie.Need-with-cosine-requires
-with-cosine-requires c κs = not-false _ (c .before .before .before .if1 .left)
+with-cosine-requires c κs = search needs
 
 blank-requires : tie.Need-blank-requires
 blank-requires c κs = search needs

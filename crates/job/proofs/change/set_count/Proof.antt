@@ -1,6 +1,7 @@
 -- C by its branches: too early, off the grid, done.
 use Rattle.grid.specs.Grid.{onGrid}
-use Rattle.job.specs.State.{withMap, withCount, inWorld, first, mapOf, worldOf}
+use Rattle.worlds.specs.World.{withMap, withCount, mapOf, worldOf}
+use Rattle.job.specs.State.{inWorld, first}
 use mathlib.Core.Path.{refl, sym, _∙_}
 use borrow.Author.Tests.{not-true, not-false}
 use Rattle.job.proofs.Commands.{goneOn, too-early, off-grid, on-grid}
@@ -35,7 +36,7 @@ returns-2 c =
     (sym (c .before .before .on-grid .ensures) ∙ not-true _ (c .before .if2 .taken))
 
 with-count-requires : tie.Need-with-count-requires
-with-count-requires c κs = not-false _ (c .before .before .before .if1 .left)
+with-count-requires c κs = search needs
 
 blank-requires : tie.Need-blank-requires
 blank-requires c κs = search needs

@@ -1,6 +1,6 @@
 -- `smallest::call::conclude`: each field from the end of the run.
 use Rattle.measure.proofs.Literals.{literal-0}
-use Rattle.smallest.specs.State.{answerBy}
+use Rattle.probes.specs.State.{answerBy}
 use Rattle.smallest.proofs.SmallestCalls.{row-on}
 use borrow.Author.Needs.{needs}
 use Rattle.smallest.proofs.call.conclude.Statement.{statement}

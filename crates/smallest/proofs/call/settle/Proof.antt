@@ -1,5 +1,5 @@
 -- `smallest::call::settle`: the people, the target and the slack, the run, and the answer from its end.
-use Rattle.smallest.specs.Probing.{CanSettle}
+use Rattle.smallest.specs.Settling.{CanSettle}
 use Rattle.smallest.proofs.SmallestCalls.{can-run, can-conclude, is-settled}
 use denote.Ref.{now}
 use borrow.Author.Needs.{needs}

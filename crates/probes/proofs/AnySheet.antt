@@ -1,0 +1,132 @@
+-- A search on any sheet, fair or not: its centre is a cell of the grid with the people of its circle, and its counts are small.
+use Prim.Native.Nat.{ℕ, zero, suc, _+_, _*_, _^_, _≤_}
+use mathlib.Core.Path.{refl}
+use mathlib.Core.List.{List, []}
+use native.Mathlib.Omega.{arith}
+use native.Mathlib.Nat.{mul-le-mul}
+use lib.Ieee.{Float}
+use Rattle.floats.specs.Binary.{whole}
+use Rattle.lists.proofs.Bools.{cond-case, is-true}
+use Rattle.lists.proofs.Elements.{all-map}
+use Rattle.grid.specs.Grid.{cell, cells}
+use Rattle.grid.specs.Map.{Map}
+use Rattle.grid.proofs.Sizes.{Sizes}
+use Rattle.table.specs.Table.{total}
+use Rattle.kernel.specs.Circle.{population}
+use Rattle.kernel.proofs.Populations.{population-total}
+use Rattle.blocks.specs.declared.Block.{Block}
+use Rattle.bounds.specs.declared.Spacing.{Spacing}
+use Rattle.blocks.specs.Block.{probe, tile, Rectangle}
+use Rattle.bounds.specs.Bound.{wideKm}
+use Rattle.bounds.specs.Spacing.{spacingOf}
+use Rattle.grid.proofs.CellOrder.{of-on-grid}
+use Rattle.blocks.proofs.Tiles.{probe-held}
+use Rattle.candidates.specs.declared.Candidate.{Candidate}
+use Rattle.candidates.specs.declared.Held.{Held}
+use Rattle.candidates.specs.declared.Held.the-variants.{Nobody, Best}
+use Rattle.levels.specs.declared.Tally.{Tally}
+use Rattle.candidates.specs.Candidate.{centreOf, candidate, northWest, prunes}
+use Rattle.levels.specs.Level.{Outcome, Work, noTally, noStats, pruned, evaluated, examine, started, joined, level}
+use Rattle.search.specs.Search.{Levels, searched, heldOr, search}
+use Rattle.levels.specs.Weight.{statsWeight}
+use Rattle.candidates.proofs.Order.{OfHeld, better-of}
+use Rattle.levels.proofs.Rule.{Kept, level-rule}
+use Rattle.levels.proofs.Counts.{next}
+use Rattle.levels.proofs.Finds.{Circle}
+use Rattle.search.proofs.Levels.{after, levels-rule, Counted, counted-first, counted-next, no-fuel, Tallied}
+use Rattle.search.proofs.Search.{found, search-is, search-tallied}
+use Rattle.ledger.specs.Places.{InBounds}
+use Rattle.probes.specs.State.{searchWeight}
+use Rattle.probes.proofs.Kept.{SearchSound}
+
+-- ---- what is held is a circle
+
+module _ (m : Map) (km : Float) where
+  -- what a level keeps of what is held
+  abbrev HeldKept : ℕ → Outcome → Outcome → List Block → Type 0
+  HeldKept n o p bs = OfHeld (Circle m km) (o .held) → OfHeld (Circle m km) (p .held)
+
+  probe-circle : (b : Block) → Rectangle (m .globe .grid) b → Circle m km (candidate m km (probe b))
+  unfolding candidate
+  probe-circle b r =
+      let h = probe-held (m .globe .grid) b r in
+      record { on = of-on-grid (m .globe .grid) (probe b) (record { row = omega arith; col = omega arith }); people = refl }
+
+  block-held : (w : Work) (b : Block) → Rectangle (m .globe .grid) b → HeldKept 0 (w .outcome) (examine m km w b .outcome) []
+  unfolding examine pruned evaluated
+  block-held w b r h =
+      let wide = wideKm (m .globe) km b in
+      cond-case (λ (v : Work). OfHeld (Circle m km) (v .outcome .held)) (prunes (population m wide (probe b)) (w .outcome .held)) (pruned w b wide)
+      (evaluated m km w b wide) (λ e. h) (λ e. better-of (Circle m km) (w .outcome .held) (Best (candidate m km (probe b))) h (probe-circle b r))
+
+  held-kept : (best : Held) → OfHeld (Circle m km) best → Kept m km best HeldKept
+  unfolding started joined
+  held-kept best c =
+      record {
+        nothing = λ o h. h;
+        block = λ w b r. block-held w b r;
+        then = λ i j o p q xs ys f g h. g (f h);
+        chunk = λ o p bs f h. better-of (Circle m km) (o .held) (p .held) h (f c);
+      }
+
+  -- before a level
+  record Holding (n : ℕ) (s : Levels) (bs : List Block) : Type 0 where
+    pub counted : Counted (m .globe .grid) n (s .tally) bs
+    pub circle : OfHeld (Circle m km) (s .held)
+
+  holding-next : (n : ℕ) (s : Levels) (bs : List Block) → Holding (suc n) s bs → Holding n (after m km s bs) (next (level m km (s .held) bs))
+  holding-next n s bs i =
+      record {
+        counted = counted-next m km (s .held) n (s .tally) bs (i .counted);
+        circle = level-rule m km (s .held) HeldKept (held-kept (s .held) (i .circle)) bs (all-map (λ b t. t .rectangle) (i .counted .small)) (i .circle);
+      }
+
+  searched-circle : (spacing : ℕ) → 1 ≤ m .globe .grid .width → 1 ≤ m .globe .grid .height → OfHeld (Circle m km) (searched m km spacing .held)
+  unfolding searched
+  searched-circle spacing w h =
+      let g = m .globe .grid in
+      let (k, i) = levels-rule m km Holding holding-next (λ s b bs i. no-fuel g (s .tally) b bs (i .counted)) (g .width + g .height)
+      (record { held = Nobody; tally = noTally }) (tile g spacing) (record { counted = counted-first g spacing w h; circle = tt }) in
+      i .circle
+
+-- ---- a search
+
+module _ (m : Map) (sizes : Sizes (m .globe .grid)) (exact : total m ≤ 2 ^ 53) where
+  circle-bounds : (km : Float) (c : Candidate) → Circle m km c → InBounds (m .globe .grid) c
+  circle-bounds km c k = record { on = is-true _ (k .on); exact = omega (arith, k .people, population-total m km (centreOf c)) }
+
+  corner-bounds : InBounds (m .globe .grid) (northWest 0)
+  unfolding northWest
+  corner-bounds =
+      record { on = is-true _ (of-on-grid (m .globe .grid) (cell 0 0) (record { row = omega (arith, sizes .some-rows); col = omega (arith, sizes .some-columns) })); exact = omega arith }
+
+  held-bounds : (km : Float) (h : Held) → OfHeld (Circle m km) h → InBounds (m .globe .grid) (heldOr (northWest 0) h)
+  unfolding heldOr
+  held-bounds km Nobody c = corner-bounds
+  held-bounds km (Best d) c = circle-bounds km d c
+
+  light : (t : Tally) → Tallied (m .globe .grid) t → statsWeight (t .stats) ≤ searchWeight
+  unfolding statsWeight cells
+  light t k =
+      let area : m .globe .grid .width * m .globe .grid .height ≤ 180 * 90 = mul-le-mul (sizes .columns) (sizes .rows) in
+      let few : t .stats .levels ≤ 270 = omega (arith, k .levels-few, sizes .columns, sizes .rows) in
+      let blocks : t .stats .levels * (m .globe .grid .width * m .globe .grid .height) ≤ 270 * 16200 = mul-le-mul few area in
+      let rows : 2 * (m .globe .grid .width * m .globe .grid .height) + 8 ≤ 32408 = omega arith in
+      let kernels : t .stats .levels * (2 * (m .globe .grid .width * m .globe .grid .height) + 8) ≤ 270 * 32408 = mul-le-mul few rows in
+      omega (arith, k .either, k .examined, k .kernels)
+
+  -- A SEARCH IS SOUND, whatever the sheet
+  pub search-sound : (spacing : Spacing) (km : ℕ) → SearchSound (m .globe .grid) (search m spacing km)
+  unfolding search noTally noStats statsWeight
+  search-sound spacing zero = record { centre = corner-bounds; light = omega arith }
+  search-sound spacing (suc km) =
+      let above : 1 ≤ suc km = omega arith in
+      let width = sizes .some-columns in
+      let height = sizes .some-rows in
+      record {
+        centre =
+            rw (search-is m spacing (suc km) above)
+            (held-bounds (whole (suc km)) (found m spacing (suc km) .held)
+            (searched-circle m (whole (suc km)) (spacingOf (m .globe .grid) (whole (suc km)) spacing) width height));
+        light = light (search m spacing (suc km) .tally) (search-tallied m spacing (suc km) above width height);
+      }

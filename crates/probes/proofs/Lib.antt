@@ -1,0 +1,6 @@
+pub mod Ring
+pub mod States
+pub mod Kept
+pub mod AnySheet
+pub mod Probes
+pub mod RunLoop

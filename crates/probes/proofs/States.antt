@@ -1,0 +1,110 @@
+-- The state of a run against the definition's run: what it tracks of the probes.
+use Prim.Native.Nat.{ℕ, suc, _+_}
+use mathlib.Core.Path.{_≡_, refl, ap}
+use mathlib.Core.Bool.{Bool, true, false, cond, not}
+use mathlib.Core.List.{List, [], _∷_}
+use native.Mathlib.Nat.{add-zero}
+use native.Mathlib.Omega.{arith}
+use lib.Dec.{eqb}
+use lib.ListN.{length}
+use lib.Ieee.{Float}
+use borrow.Author.Tests.{eq-eqb}
+use Rattle.lists.specs.Counted.{one}
+use Rattle.lists.proofs.Bools.{cases, and-no}
+use Rattle.grid.specs.Map.{Map}
+use Rattle.bounds.specs.declared.Spacing.{Spacing}
+use Rattle.levels.specs.declared.SearchStats.{SearchStats}
+use Rattle.levels.specs.Level.{noStats, plusStats}
+use Rattle.search.specs.Search.{search}
+use Rattle.ledger.specs.declared.Got.{Got}
+use Rattle.ledger.specs.declared.Got.the-variants.{Circle, Nothing}
+use Rattle.ledger.specs.declared.Ledger.{Ledger}
+use Rattle.ledger.specs.Ledger.{entry, get, put}
+use Rattle.measure.specs.Target.{reaches}
+use Rattle.probes.specs.declared.RunState.{RunState}
+use Rattle.probes.specs.declared.SmallestStats.{SmallestStats}
+use Rattle.probes.specs.Probes.{Probe, Run, reusedAt, searchedAt, probedWith, probed, latestOf, latest, howMany, evaluatedIn, reusedIn, statsOf}
+use Rattle.probes.specs.Smallest.{shortBelow, ambiguity}
+use Rattle.probes.specs.State.{counts, begun, reusedMore, evaluatedMore, shortAfter, ambiguityAfter, noted, stateWith, stateAfter, ledgerWith, ledgerAfter}
+
+-- a run that has not begun
+abbrev pub starting : Ledger → Run
+starting l = record { trace = []; ledger = l }
+
+-- every probe is counted once
+pub counted-once : (ps : List Probe) → evaluatedIn ps + reusedIn ps ≡ length ps
+unfolding evaluatedIn reusedIn howMany one
+counted-once [] = refl
+counted-once (p ∷ ps) = go (p .reused) (counted-once ps)
+  where
+    go : (b : Bool) → evaluatedIn ps + reusedIn ps ≡ length ps → (evaluatedIn ps + cond (not b) 1 0) + (reusedIn ps + cond b 1 0) ≡ suc (length ps)
+    go true e = omega arith
+    go false e = omega arith
+
+-- ---- what the state tracks
+
+-- every kilometre probed below `low` fell short, the last one at the kilometre below it
+pub record Tracks (persons slack : Float) (low : ℕ) (r : Run) (l : Ledger) (s : RunState) : Type 0 where
+  pub ledger : l ≡ r .ledger
+  pub short : s .short ≡ shortBelow persons low (r .trace)
+  pub ambiguous : s .ambiguity ≡ ambiguity persons slack (r .trace)
+  pub stats : s .stats ≡ counts (evaluatedIn (r .trace)) (reusedIn (r .trace)) (statsOf (r .trace))
+
+pub tracks-begun : (persons slack : Float) (people : ℕ) (l : Ledger) → Tracks persons slack 0 (starting l) l (begun people)
+unfolding begun shortBelow ambiguity evaluatedIn reusedIn howMany statsOf
+tracks-begun persons slack people l = record { ledger = refl; short = refl; ambiguous = refl; stats = refl }
+
+-- a search that was not made counts nothing
+plus-none : (s : SearchStats) → s ≡ plusStats s noStats
+unfolding plusStats noStats
+plus-none s = simp add-zero
+
+-- after a probe at km
+pub record Tracked (persons slack : Float) (low : ℕ) (s : RunState) (km : ℕ) (r′ : Run) (l′ : Ledger) (s′ : RunState) : Type 0 where
+  pub reached : s′ .reached ≡ reaches persons (latest r′)
+  pub found : s′ .found ≡ cond (s′ .reached) (latest r′) (s .found)
+  pub tracks : Tracks persons slack (cond (s′ .reached) low (km + 1)) r′ l′ s′
+
+module _ (persons slack : Float) (low : ℕ) (r : Run) (l : Ledger) (s : RunState) (k : Tracks persons slack low r l s) where
+  -- one probe more, with the ledger and the counts after it
+  noted-tracks : (p : Probe) (l′ : Ledger) (t : SmallestStats)
+      → t ≡ counts (evaluatedIn (p ∷ r .trace)) (reusedIn (p ∷ r .trace)) (statsOf (p ∷ r .trace))
+      → Tracks persons slack (cond (reaches persons (p .centre)) low (p .km + 1)) (record { trace = p ∷ r .trace; ledger = l′ }) l′ (noted persons slack s (p .km) (p .centre) t)
+  unfolding noted shortAfter ambiguityAfter shortBelow ambiguity
+  noted-tracks p l′ t e =
+      record {
+        ledger = refl;
+        short =
+            cases (reaches persons (p .centre))
+            (λ u. rw (u, and-no (eqb (p .km + 1) low) false refl) (k .short))
+            (λ u. rw (u, eq-eqb (p .km + 1) (p .km + 1) refl));
+        ambiguous = rw (← k .ambiguous);
+        stats = e;
+      }
+
+  -- ONE PROBE ON, the state tracks the run
+  pub tracks-next : (m : Map) (spacing : Spacing) (km : ℕ) → Tracked persons slack low s km (probed m spacing r km) (ledgerAfter m spacing l km) (stateAfter m spacing persons slack s l km)
+  unfolding probed probedWith reusedAt searchedAt stateAfter stateWith ledgerAfter ledgerWith latest latestOf noted reusedMore evaluatedMore evaluatedIn reusedIn howMany statsOf one
+  tracks-next m spacing km =
+      let same : get l km ≡ get (r .ledger) km = ap (λ (h : Ledger). get h km) (k .ledger) in
+      rw same (by (get (r .ledger) km))
+    where
+      by : (f : Got) → Tracked persons slack low s km (probedWith m spacing r km f) (ledgerWith m spacing l km f) (stateWith m spacing persons slack s km f)
+      by (Circle c) =
+          record {
+            reached = refl;
+            found = refl;
+            tracks =
+                rw (k .ledger)
+                (noted-tracks (record { km = km; centre = c; reused = true; stats = noStats }) (r .ledger) (reusedMore (s .stats)) (rw (k .stats, add-zero, ← plus-none)));
+          }
+      by Nothing =
+          let f = search m spacing km in
+          record {
+            reached = refl;
+            found = refl;
+            tracks =
+                rw (k .ledger)
+                (noted-tracks (record { km = km; centre = f .centre; reused = false; stats = f .tally .stats }) (put (r .ledger) (entry km (f .centre))) (evaluatedMore (s .stats) (f .tally .stats))
+                (rw (k .stats, add-zero)));
+          }

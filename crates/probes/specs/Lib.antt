@@ -1,0 +1,5 @@
+pub mod Probes
+pub mod Smallest
+pub mod State
+pub mod Probing
+pub mod Ring

@@ -1,0 +1,58 @@
+-- The ring's smallest radii: what the marked facts (1), (8) and (9) of document 01 say, once the call's questions are answered.
+use Prim.Native.Nat.{ℕ}
+use mathlib.Core.Path.{_≡_}
+use mathlib.Core.Bool.{false}
+use mathlib.Core.List.{List}
+use lib.IntN.{negsuc}
+use lib.Ieee.{Float, fin}
+use Rattle.floats.specs.Binary.{whole}
+use Rattle.grid.specs.Grid.{cell}
+use Rattle.grid.specs.Map.{Map}
+use Rattle.candidates.specs.declared.Candidate.{Candidate}
+use Rattle.bounds.specs.declared.Spacing.the-variants.{Cells}
+use Rattle.candidates.specs.Candidate.{candidateOf}
+use Rattle.search.specs.Ring.{ring, emptyRing}
+use Rattle.ledger.specs.declared.Entry.{Entry}
+use Rattle.probes.specs.declared.Ambiguity.the-variants as ambiguity-case
+use Rattle.probes.specs.declared.ShortBelow.{ShortBelow}
+use Rattle.probes.specs.declared.ShortBelow.the-variants as short-case
+use Rattle.probes.specs.declared.Smallest.{Smallest}
+use Rattle.probes.specs.Smallest.{smallest}
+
+-- the smallest radius with spacing 4 from a fresh ledger, whose places may hold anything
+abbrev pub ringSettled : Map → Float → List Entry → Smallest
+ringSettled m share places = smallest m (Cells 4) share (record { len = 0; places = places }) .answer
+
+-- the values that the line `least` prints
+pub record LeastLine : Type 0 where
+  pub km : ℕ
+  pub centre : Candidate
+  pub short : ShortBelow
+  pub evaluated : ℕ
+  pub reused : ℕ
+
+unfoldable pub lineOf : Smallest → LeastLine
+lineOf s =
+    record {
+      km = s .«radius_km» .0;
+      centre = s .centre;
+      short = s .«short_below»;
+      evaluated = s .stats .«radii_evaluated»;
+      reused = s .stats .«radii_reused»;
+    }
+
+abbrev pub half : Float
+half = fin false 1 (negsuc 0)
+
+abbrev pub shortAt : ℕ → ℕ → ShortBelow
+shortAt km people = short-case.Witness (record { 0 = km }) people
+
+pub record RingRadii : Type 0 where
+  pub share-half : (places : List Entry)
+      → lineOf (ringSettled ring half places) ≡ record { km = 10008; centre = candidateOf (cell 0 3) 15; short = shortAt 10007 7; evaluated = 28; reused = 0 }
+  pub share-1 : (places : List Entry)
+      → lineOf (ringSettled ring (whole 1) places) ≡ record { km = 20016; centre = candidateOf (cell 0 0) 16; short = shortAt 20015 15; evaluated = 16; reused = 0 }
+  pub nobody : (places : List Entry)
+      → lineOf (ringSettled emptyRing half places) ≡ record { km = 0; centre = candidateOf (cell 0 0) 0; short = short-case.Absent; evaluated = 2; reused = 0 }
+  pub nobody-ambiguity : (places : List Entry)
+      → ringSettled emptyRing half places .ambiguity ≡ ambiguity-case.Radii (record { 0 = 0 }) (record { 0 = 1 }) 2

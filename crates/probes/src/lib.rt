@@ -1,0 +1,65 @@
+// The probes of a smallest-radius call, from the first radius until the bracket is closed, and the fields of its answer.
+
+mod probe;
+mod runs;
+mod state;
+
+use candidates::Candidate;
+use climb::Bracket;
+use grid::RadiusKm;
+use ledger::Ledger;
+use levels::SearchStats;
+use measure::Target;
+pub use runs::run;
+
+// The probe that fell short one kilometre below the answer.
+pub enum ShortBelow {
+    Witness { km: RadiusKm, population: u64 },
+    Absent,
+}
+
+// The probes whose populations the slack cannot separate from the target.
+pub enum Ambiguity {
+    Radii {
+        lowest_km: RadiusKm,
+        highest_km: RadiusKm,
+        radii: u32,
+    },
+    Absent,
+}
+
+pub struct SmallestStats {
+    pub radii_evaluated: u64,
+    pub radii_reused: u64,
+    pub searched: SearchStats,
+}
+
+pub struct Smallest {
+    pub radius_km: RadiusKm,
+    pub centre: Candidate,
+    pub target: Target,
+    pub share_achieved: f64,
+    pub short_below: ShortBelow,
+    pub covers_whole_grid: bool,
+    pub predicate_slack_persons: f64,
+    pub ambiguity: Ambiguity,
+    pub tolerance_persons: f64,
+    pub stats: SmallestStats,
+}
+
+// A run after some probes: whether the latest reached, what the lowest that reached found, the latest that fell short, the ambiguity and
+// the counts. The ledger is large and stands beside it.
+pub struct RunState {
+    pub reached: bool,
+    pub found: Candidate,
+    pub short: ShortBelow,
+    pub ambiguity: Ambiguity,
+    pub stats: SmallestStats,
+}
+
+// Where a run has ended.
+pub struct RunEnd {
+    pub bracket: Bracket,
+    pub state: RunState,
+    pub ledger: Ledger,
+}

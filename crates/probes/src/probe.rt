@@ -1,0 +1,54 @@
+// What a probe adds to the state: the ledger's entry of the kilometre, or else a search.
+use crate::RunState;
+use candidates::Candidate;
+use grid::RadiusKm;
+use ledger::Entry;
+use search::MostPopulous;
+ghost use mathlib.Core.Path.{_≡_};
+ghost use Rattle.ledger.specs.Ledger.{entry};
+ghost use Rattle.probes.specs.State.{reusedMore, evaluatedMore, noted};
+ghost use Rattle.probes.specs.Probing.{CanNote, CanEvaluate};
+
+pub(crate) fn reused(
+    persons: f64,
+    slack: f64,
+    state: RunState,
+    km: u32,
+    centre: Candidate,
+) -> RunState
+    requires { ⌜ CanNote state centre ⌝ }
+    ensures { λ r. ⌜ r ≡ noted persons slack state km centre (reusedMore (state .stats)) ⌝ }
+{
+    let before = state.stats;
+    let stats = crate::state::reused_more(before);
+    crate::state::noted(persons, slack, state, km, centre, stats)
+}
+
+pub(crate) fn evaluated(
+    persons: f64,
+    slack: f64,
+    state: RunState,
+    km: u32,
+    found: MostPopulous,
+) -> RunState
+    requires { ⌜ CanEvaluate state found ⌝ }
+    ensures { λ r. ⌜ r ≡ noted persons slack state km (found .centre) (evaluatedMore (state .stats) (found .tally .stats)) ⌝ }
+{
+    let centre = found.centre;
+    let tally = found.tally;
+    let search = tally.stats;
+    let before = state.stats;
+    let stats = crate::state::evaluated_more(before, search);
+    crate::state::noted(persons, slack, state, km, centre, stats)
+}
+
+// The entry by which the ledger keeps a search.
+pub(crate) fn entry_of(km: u32, found: MostPopulous) -> Entry
+    ensures { λ r. ⌜ r ≡ entry km (found .centre) ⌝ }
+{
+    let centre = found.centre;
+    Entry {
+        km: RadiusKm(km),
+        centre,
+    }
+}

@@ -1,0 +1,174 @@
+// The state of a run: what a probe adds to it.
+use crate::Ambiguity;
+use crate::RunState;
+use crate::ShortBelow;
+use crate::SmallestStats;
+use candidates::Candidate;
+use grid::Col;
+use grid::RadiusKm;
+use grid::Row;
+use levels::SearchStats;
+ghost use mathlib.Core.Path.{_≡_};
+ghost use mathlib.Core.Bool.{cond};
+ghost use Prim.Native.Nat.{_+_, _≤_, _<_, _^_, min};
+ghost use Rattle.lists.specs.Counted.{max};
+ghost use Rattle.levels.specs.Weight.{statsWeight};
+ghost use Rattle.probes.specs.Smallest.{widened};
+ghost use Rattle.probes.specs.State.{begun, reusedMore, evaluatedMore, shortAfter, ambiguityAfter, noted, radiiOf};
+
+fn lesser(a: u32, b: u32) -> u32
+    ensures { λ r. ⌜ r ≡ min a b ⌝ }
+{
+    if a < b { a } else { b }
+}
+
+fn greater(a: u32, b: u32) -> u32
+    ensures { λ r. ⌜ r ≡ max a b ⌝ }
+{
+    if a < b { b } else { a }
+}
+
+// One radius more that the slack cannot separate from the target.
+fn widened(ambiguity: Ambiguity, km: u32) -> Ambiguity
+    requires { ⌜ radiiOf ambiguity + 1 < 2 ^ 32 ⌝ }
+    ensures { λ r. ⌜ r ≡ widened ambiguity km ⌝ }
+{
+    match ambiguity {
+        Ambiguity::Absent => Ambiguity::Radii {
+            lowest_km: RadiusKm(km),
+            highest_km: RadiusKm(km),
+            radii: 1,
+        },
+        Ambiguity::Radii {
+            lowest_km,
+            highest_km,
+            radii,
+        } => {
+            let low = lesser(lowest_km.0, km);
+            let high = greater(highest_km.0, km);
+            Ambiguity::Radii {
+                lowest_km: RadiusKm(low),
+                highest_km: RadiusKm(high),
+                radii: radii + 1,
+            }
+        }
+    }
+}
+
+fn ambiguity_after(within: bool, ambiguity: Ambiguity, km: u32) -> Ambiguity
+    requires { ⌜ radiiOf ambiguity + 1 < 2 ^ 32 ⌝ }
+    ensures { λ r. ⌜ r ≡ ambiguityAfter within ambiguity km ⌝ }
+{
+    if within {
+        return widened(ambiguity, km);
+    }
+    ambiguity
+}
+
+// A probe that fell short is the witness until another does: it is one kilometre below the lowest that is left.
+fn short_after(reached: bool, short: ShortBelow, km: u32, population: u64) -> ShortBelow
+    ensures { λ r. ⌜ r ≡ shortAfter reached short km population ⌝ }
+{
+    if reached {
+        return short;
+    }
+    ShortBelow::Witness {
+        km: RadiusKm(km),
+        population,
+    }
+}
+
+fn found_after(reached: bool, centre: Candidate, found: Candidate) -> Candidate
+    ensures { λ r. ⌜ r ≡ cond reached centre found ⌝ }
+{
+    if reached {
+        return centre;
+    }
+    found
+}
+
+pub(crate) fn reused_more(stats: SmallestStats) -> SmallestStats
+    requires { ⌜ stats .«radii_evaluated» + stats .«radii_reused» < 2 ^ 32 ⌝ }
+    ensures { λ r. ⌜ r ≡ reusedMore stats ⌝ }
+{
+    let searched = stats.searched;
+    SmallestStats {
+        radii_evaluated: stats.radii_evaluated,
+        radii_reused: stats.radii_reused + 1,
+        searched,
+    }
+}
+
+pub(crate) fn evaluated_more(stats: SmallestStats, search: SearchStats) -> SmallestStats
+    requires { ⌜ stats .«radii_evaluated» + stats .«radii_reused» < 2 ^ 32 ⌝ }
+    requires { ⌜ statsWeight (stats .searched) + statsWeight search ≤ 2 ^ 31 ⌝ }
+    ensures { λ r. ⌜ r ≡ evaluatedMore stats search ⌝ }
+{
+    let before = stats.searched;
+    let searched = levels::plus_stats(before, search);
+    SmallestStats {
+        radii_evaluated: stats.radii_evaluated + 1,
+        radii_reused: stats.radii_reused,
+        searched,
+    }
+}
+
+// Before the first probe.
+pub(crate) fn begun(people: u64) -> RunState
+    ensures { λ r. ⌜ r ≡ begun people ⌝ }
+{
+    let searched = SearchStats {
+        levels: 0,
+        blocks_examined: 0,
+        blocks_pruned: 0,
+        circles_evaluated: 0,
+        kernels_built: 0,
+    };
+    let stats = SmallestStats {
+        radii_evaluated: 0,
+        radii_reused: 0,
+        searched,
+    };
+    let found = Candidate {
+        row: Row(0),
+        col: Col(0),
+        population: people,
+    };
+    RunState {
+        reached: false,
+        found,
+        short: ShortBelow::Absent,
+        ambiguity: Ambiguity::Absent,
+        stats,
+    }
+}
+
+// After a probe that found a centre; the counts are those after it.
+pub(crate) fn noted(
+    persons: f64,
+    slack: f64,
+    state: RunState,
+    km: u32,
+    centre: Candidate,
+    stats: SmallestStats,
+) -> RunState
+    requires { ⌜ centre .population ≤ 2 ^ 53 ⌝ }
+    requires { ⌜ radiiOf (state .ambiguity) + 1 < 2 ^ 32 ⌝ }
+    ensures { λ r. ⌜ r ≡ noted persons slack state km centre stats ⌝ }
+{
+    let old_found = state.found;
+    let old_short = state.short;
+    let old_ambiguity = state.ambiguity;
+    let reached = measure::reaches(persons, centre);
+    let found = found_after(reached, centre, old_found);
+    let short = short_after(reached, old_short, km, centre.population);
+    let within = measure::within_slack(persons, slack, centre);
+    let ambiguity = ambiguity_after(within, old_ambiguity, km);
+    RunState {
+        reached,
+        found,
+        short,
+        ambiguity,
+        stats,
+    }
+}
