@@ -5,4 +5,3 @@ pub mod Wide
 pub mod WideFacts
 pub mod Literals
 pub mod Sides
-pub mod Slacks

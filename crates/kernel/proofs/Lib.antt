@@ -6,7 +6,6 @@ pub mod Reaches
 pub mod Walks
 pub mod Kernels
 pub mod Built
-pub mod Rows
 pub mod Cells
 pub mod WholeGrid
 pub mod People

@@ -18,7 +18,7 @@ use Rattle.grid.specs.Questions.{angle, sheetComplete}
 use Rattle.grid.proofs.Sizes.{Sizes, grid-sizes}
 use Rattle.grid.proofs.SheetOrder.{InOrder, in-order, offsets-first, rows-band}
 use Rattle.kernel.specs.Kernel.{reach, globeOf, sheetOf, Sheet}
-use Rattle.lists.proofs.Counts.{count-is, count-tests, count-le}
+use Rattle.lists.proofs.Counts.{count-is, count-tests}
 
 -- whether an offset of a row is within an angle
 unfoldable pub inside : Globe → ℕ → ℕ → Float → ℕ → Bool
@@ -65,10 +65,6 @@ pub reach-is : (s : Globe) (c r : ℕ) (limit : Float) (n : ℕ) → n ≤ closi
     → reach s (record { 0 = c }) (record { 0 = r }) limit ≡ n
 unfolding reach inside
 reach-is s c r limit n h pass fail = count-is (inside s c r limit) (closing (s .grid) + 1) n h pass fail
-
-pub reach-le : (s : Globe) (c r : Row) (limit : Float) → reach s c r limit ≤ closing (s .grid) + 1
-unfolding reach
-reach-le s c r limit = count-le (λ k. le (angleAt s c r k) limit) (closing (s .grid) + 1)
 
 -- reaches read no cosine
 pub reach-sheet : (g : Grid) (angles cosines : List Float) (c r : Row) (limit : Float)

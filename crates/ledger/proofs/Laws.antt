@@ -9,7 +9,7 @@ use lib.ListN.{length}
 use borrow.Author.Tests.{leb-true, eqb-true, le-leb}
 use Rattle.lists.specs.Front.{onto}
 use Rattle.lists.proofs.Bools.{and-both, cases}
-use Rattle.lists.proofs.Fronts.{take-onto, length-onto}
+use Rattle.lists.proofs.Fronts.{take-onto}
 use Rattle.grid.specs.declared.Grid.{Grid}
 use Rattle.candidates.specs.declared.Candidate.{Candidate}
 use Rattle.ledger.specs.declared.Entry.{Entry}
@@ -65,10 +65,6 @@ module _ (l : Ledger) (x : Entry) where
 
   pub length-put-most : length (entries (put l x)) ≤ suc (length (entries l))
   length-put-most = rw entries-put (length-enter-most (entries l) x)
-
-  -- with room in the places their number stays
-  pub length-places-put : length (enter (entries l) x) ≤ length (l .places) → length (put l x .places) ≡ length (l .places)
-  length-places-put h = rw places-put (length-onto (enter (entries l) x) (l .places) h)
 
   pub rising-put : risingFrom 0 (entries l) ≡ true → risingFrom 0 (entries (put l x)) ≡ true
   rising-put r = rw entries-put (rising-enter 0 (entries l) x r (omega arith))

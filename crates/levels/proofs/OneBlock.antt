@@ -47,11 +47,6 @@ pub kernel-own : (g : Grid) (angles : List Float) (row : Row) (km : Float) → O
 unfolding kernelOf
 kernel-own g angles row km = refl
 
--- the row and the radius of a kernel
-kernel-row : (g : Grid) (angles : List Float) (row : Row) (km : Float) → kernelOf (sheetOf g angles) row km .row ≡ row
-unfolding kernelOf
-kernel-row g angles row km = refl
-
 kernel-km : (g : Grid) (angles : List Float) (row : Row) (km : Float) → kernelOf (sheetOf g angles) row km .km ≡ km
 unfolding kernelOf
 kernel-km g angles row km = refl

@@ -54,7 +54,3 @@ module _ (n : ℕ) (m : ℕ → ℕ) (p : ℕ → ℕ → Bool) where
 
   pub all-rows-of : ((i j : ℕ) → i < n → j < m i → p i j ≡ true) → allBelow n (λ k. allBelow (m k) (p k)) ≡ true
   all-rows-of h = all-of n (λ k. allBelow (m k) (p k)) (λ i l. all-of (m i) (p i) (λ j k. h i j l k))
-
-  -- one pair that fails
-  pub all-rows-fail : (i j : ℕ) → i < n → j < m i → p i j ≡ false → allBelow n (λ k. allBelow (m k) (p k)) ≡ false
-  all-rows-fail i j h l e = all-fails n (λ k. allBelow (m k) (p k)) i h (all-fails (m i) (p i) j l e)

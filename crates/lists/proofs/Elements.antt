@@ -1,6 +1,6 @@
 -- A property of every element, and of some element, of a list; and a sum over its elements.
 use Prim.Native.Nat.{ℕ, zero, suc, _+_, _≤_, _<_}
-use mathlib.Core.Path.{_≡_, refl, sym, ap, _∙_}
+use mathlib.Core.Path.{_≡_, refl, ap, _∙_}
 use mathlib.Core.Logic.{_⊎_, inl, inr}
 use mathlib.Core.List.{List, [], _∷_, _++_}
 use native.Mathlib.Omega.{arith}
@@ -98,9 +98,6 @@ module _ {A : Type 0} where
   unfolding total
   total-append f [] ys = omega arith
   total-append f (x ∷ xs) ys = omega (arith, total-append f xs ys)
-
-  pub total-cut : (f : A → ℕ) (n : ℕ) (xs : List A) → total f (take n xs) + total f (drop n xs) ≡ total f xs
-  total-cut f n xs = sym (total-append f (take n xs) (drop n xs)) ∙ ap (total f) (take-append-drop n xs)
 
   pub total-length : (xs : List A) → total (λ x. 1) xs ≡ length xs
   unfolding total

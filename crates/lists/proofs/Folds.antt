@@ -1,10 +1,10 @@
 -- A fold from the left, the form of a loop that carries a state over a slice; and a function applied to each element.
 use mathlib.Core.Path.{_≡_, refl, sym, ap, _∙_}
 use mathlib.Core.List.{List, [], _∷_, _++_, append-assoc, append-nil}
-use Prim.Native.Nat.{ℕ, zero, suc, _+_, _≤_, _<_}
+use Prim.Native.Nat.{ℕ, zero, suc, _+_, _<_}
 use native.Mathlib.Numerals.{add-one}
 use lib.ListN.{length, take, getD}
-use lib.Seq.{take-suc, take-all}
+use lib.Seq.{take-suc}
 use Rattle.lists.specs.Lists.{fold, each, concatEach}
 
 module _ {A S : Type 0} (f : S → A → S) where
@@ -12,18 +12,6 @@ module _ {A S : Type 0} (f : S → A → S) where
   unfolding fold
   fold-append s [] ys = refl
   fold-append s (x ∷ xs) ys = fold-append (f s x) xs ys
-
-  pub fold-none : (s : S) (xs : List A) → fold f s (take 0 xs) ≡ s
-  unfolding fold
-  fold-none s xs = refl
-
-  -- one element more; d is any element
-  pub fold-more : (s : S) (xs : List A) (i : ℕ) (d : A) → i < length xs → fold f s (take (i + 1) xs) ≡ f (fold f s (take i xs)) (getD xs i d)
-  unfolding fold
-  fold-more s xs i d h = rw (add-one i, take-suc xs i d h) (fold-append s (take i xs) (getD xs i d ∷ []))
-
-  pub fold-done : (s : S) (xs : List A) (i : ℕ) → length xs ≤ i → fold f s (take i xs) ≡ fold f s xs
-  fold-done s xs i h = ap (fold f s) (take-all i xs h)
 
 module _ {A B : Type 0} (f : A → B) where
   pub length-each : (xs : List A) → length (each f xs) ≡ length xs
@@ -41,10 +29,6 @@ module _ {A B : Type 0} (f : A → B) where
   each-at [] i d = refl
   each-at (x ∷ xs) zero d = refl
   each-at (x ∷ xs) (suc i) d = each-at xs i d
-
-  pub each-more : (xs : List A) (i : ℕ) (d : A) → i < length xs → each f (take (i + 1) xs) ≡ each f (take i xs) ++ f (getD xs i d) ∷ []
-  unfolding each
-  each-more xs i d h = rw (add-one i, take-suc xs i d h) (each-append (take i xs) (getD xs i d ∷ []))
 
 module _ {A B : Type 0} (f : A → List B) where
   pub concat-append : (xs ys : List A) → concatEach f (xs ++ ys) ≡ concatEach f xs ++ concatEach f ys

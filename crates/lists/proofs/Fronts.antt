@@ -33,10 +33,6 @@ module _ {A : Type 0} where
 
   -- ---- a list over a buffer's front
 
-  pub onto-none : (l : List A) → onto [] l ≡ l
-  unfolding onto
-  onto-none l = refl
-
   pub length-onto : (xs l : List A) → length xs ≤ length l → length (onto xs l) ≡ length l
   unfolding onto
   length-onto xs l h = simp (length-append, length-drop) (omega arith)

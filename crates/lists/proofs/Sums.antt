@@ -63,9 +63,6 @@ sum-bound n f b h = rw (← sum-constant n b) (sum-le n f (λ i. b) h)
 pub sum-grows : (m n : ℕ) (f : ℕ → ℕ) → m ≤ n → sumBelow m f ≤ sumBelow n f
 sum-grows m n f h = omega (arith, sum-split m n f h)
 
-pub sum-part : (n i : ℕ) (f : ℕ → ℕ) → i < n → f i ≤ sumBelow n f
-sum-part n i f h = omega (arith, sum-grows (suc i) n f h, sum-suc i f)
-
 -- by rows or by columns
 pub sum-exchange : (m n : ℕ) (f : ℕ → ℕ → ℕ) → sumBelow m (λ i. sumBelow n (f i)) ≡ sumBelow n (λ j. sumBelow m (λ i. f i j))
 sum-exchange zero n f = sum-none (λ i. sumBelow n (f i)) ∙ sym (sum-zeros n (λ j. sumBelow 0 (λ i. f i j)) (λ j h. sum-none (λ i. f i j)))

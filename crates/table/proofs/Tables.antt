@@ -10,18 +10,14 @@ use borrow.Author.Tests.{leb-true, eqb-true}
 use lib.ListN.{length, getD}
 use lib.Seq.{ext-getD}
 use Rattle.lists.specs.Front.{tabulate}
-use Rattle.lists.proofs.Fronts.{length-tabulate, getD-tabulate, length-over, over-fix, over-same}
+use Rattle.lists.proofs.Fronts.{length-tabulate, getD-tabulate, length-over, over-fix}
 use Rattle.grid.specs.declared.Grid.{Grid}
-use Rattle.grid.specs.declared.Row.{Row}
-use Rattle.grid.specs.declared.Col.{Col}
 use Rattle.grid.specs.Grid.{cells}
 use Rattle.grid.specs.Map.{Map, count}
 use Rattle.grid.specs.Questions.{sizesInRange, countsComplete}
 use Rattle.grid.proofs.Sizes.{grid-sizes}
-use Rattle.table.specs.declared.RowBand.{RowBand}
-use Rattle.table.specs.declared.ColSpan.{ColSpan}
-use Rattle.table.specs.Table.{corner, sumsWords, sumsWord, filledSums, sumsFit, total, bandPopulation}
-use Rattle.table.specs.Summed.{countsMap, tableMap, globeMap, Fillable, Summed, wordAt, countAt, countsOf, rowSpan}
+use Rattle.table.specs.Table.{corner, sumsWords, sumsWord, filledSums, sumsFit, total}
+use Rattle.table.specs.Summed.{countsMap, tableMap, globeMap, Fillable, Summed, wordAt, countAt, countsOf}
 use Rattle.table.proofs.Laws.{people, widthOf, heightOf, corner-cell, corner-read, total-small}
 
 -- the row and the column of the count at a place
@@ -54,21 +50,9 @@ module _ (m : Map) where
   unfolding filledSums sumsWord corner count
   bare-filled l = refl
 
-  pub bare-corner : (r c : ℕ) → corner (countsMap (m .globe .grid) (m .counts)) r c ≡ corner m r c
-  unfolding corner count
-  bare-corner r c = refl
-
   pub bare-total : total (countsMap (m .globe .grid) (m .counts)) ≡ total m
   unfolding total corner count
   bare-total = refl
-
-  pub bare-band : (b : RowBand) (s : ColSpan) → bandPopulation (countsMap (m .globe .grid) (m .counts)) b s ≡ bandPopulation m b s
-  unfolding bandPopulation count
-  bare-band b s = refl
-
-  pub bare-row : (row : Row) (centre : Col) (half : ℕ) → rowSpan (countsMap (m .globe .grid) (m .counts)) row centre half ≡ rowSpan m row centre half
-  unfolding rowSpan count
-  bare-row row centre half = refl
 
 -- ---- a filled buffer
 
@@ -76,11 +60,6 @@ module _ (m : Map) (l : List ℕ) where
   pub length-filled : sumsWords (m .globe .grid) ≤ length l → length (filledSums m l) ≡ length l
   unfolding filledSums
   length-filled h = length-over (sumsWord m) (sumsWords (m .globe .grid)) l h
-
-  -- a second filling changes nothing
-  pub filled-again : filledSums m (filledSums m l) ≡ filledSums m l
-  unfolding filledSums
-  filled-again = over-same (sumsWord m) (sumsWords (m .globe .grid)) l
 
   module _ (s : List ℕ) (filled : s ≡ filledSums m l) where
     pub filled-own : s ≡ filledSums m s
