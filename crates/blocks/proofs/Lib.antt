@@ -1,6 +1,7 @@
 -- The laws of blocks and of the buffers that hold them.
 pub mod General
 pub mod Ranges
+pub mod Shapes
 pub mod Tiles
 pub mod Words
 pub mod Cuts

@@ -36,6 +36,10 @@ middle low high = low + (high - low) / 2
 unfoldable pub probe : Block → Cell
 probe b = cell (middle (b .north .0) (b .south .0)) (middle (b .first .0) (b .last .0))
 
+-- the same rows and as many columns (sums, since a difference would hide a last column that stands before the first)
+unfoldable pub sameShape : Block → Block → Bool
+sameShape a b = eqb (a .north .0) (b .north .0) && eqb (a .south .0) (b .south .0) && eqb (a .last .0 + b .first .0) (b .last .0 + a .first .0)
+
 -- at or before, by probe: row, then column
 unfoldable pub byProbe : Block → Block → Bool
 byProbe a b = not (before (probe b) (probe a))
@@ -81,5 +85,5 @@ pub record Holds (b : Block) (x : Cell) : Type 0 where
 
 -- opens all of the above, for facts that are computed
 unfoldable pub blocks : Unit {0}
-unfolding area isCell middle probe byProbe steps cross tile halves split
+unfolding area isCell middle probe sameShape byProbe steps cross tile halves split
 blocks = tt

@@ -8,6 +8,7 @@ pub use cells::area;
 pub use cells::by_probe;
 pub use cells::is_cell;
 pub use cells::probe;
+pub use cells::same_shape;
 use grid::Col;
 use grid::Row;
 pub use order::insert_from;

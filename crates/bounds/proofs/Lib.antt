@@ -5,3 +5,4 @@ pub mod Wide
 pub mod WideFacts
 pub mod Literals
 pub mod Sides
+pub mod Shaped

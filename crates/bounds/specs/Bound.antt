@@ -12,7 +12,9 @@ use Rattle.grid.specs.declared.Grid.{Grid}
 use Rattle.grid.specs.Numbers.{radian, ε, largest}
 use Rattle.grid.specs.Grid.{arcKm, centreLat}
 use Rattle.grid.specs.Map.{Globe, Map, cosineAt}
+use Rattle.kernel.specs.declared.Kernel.{Kernel}
 use Rattle.kernel.specs.Circle.{inCircle, population}
+use Rattle.kernel.specs.Kernel.{kernelOf, sheetOf, Sheet}
 use Rattle.blocks.specs.declared.Block.{Block}
 use Rattle.blocks.specs.Block.{probe, Rectangle}
 
@@ -44,6 +46,16 @@ pub record OnSheet (g : Grid) (cosines : List Float) (b : Block) : Type 0 where
   pub complete : length cosines ≡ g .height
   pub rectangle : Rectangle g b
 
+-- the kernel of a block's wide circle
+unfoldable pub wideKernel : Globe → Float → Block → Kernel
+wideKernel s km b = kernelOf (sheetOf (s .grid) (s .angles)) (probe b .row) (wideKm s km b)
+
+-- what it is built with
+pub record CanWiden (g : Grid) (angles cosines : List Float) (b : Block) : Type 0 where
+  pub sheet : Sheet g angles
+  pub complete : length cosines ≡ g .height
+  pub rectangle : Rectangle g b
+
 -- a cell is in the wide circle of a block
 unfoldable pub inWideCircle : Globe → Float → Block → Cell → Bool
 inWideCircle s km b x = inCircle s (wideKm s km b) (probe b) x
@@ -54,5 +66,5 @@ bound m km b = population m (wideKm (m .globe) km b) (probe b)
 
 -- opens all of the above, for facts that are computed
 unfoldable pub bounds : Unit {0}
-unfolding slackMargin slackKm widenedBy wideKm inWideCircle bound
+unfolding slackMargin slackKm widenedBy wideKm wideKernel inWideCircle bound
 bounds = tt

@@ -1,11 +1,13 @@
 // The wide circle of a block: how far its cells may stand from its probe, and the radius widened by that.
 use blocks::Block;
 use grid::Grid;
+use kernel::Kernel;
 ghost use mathlib.Core.Path.{_≡_};
 ghost use mathlib.Core.List.{[]};
 ghost use Prim.Native.Nat.{_-_, _≤_};
 ghost use Rattle.lists.specs.Counted.{max};
-ghost use Rattle.bounds.specs.Bound.{slackMargin, slackKm, widenedBy, wideKm, OnSheet};
+ghost use Rattle.kernel.specs.Kernel.{globeOf};
+ghost use Rattle.bounds.specs.Bound.{slackMargin, slackKm, widenedBy, wideKm, wideKernel, OnSheet, CanWiden};
 
 // A degree in radians.
 pub const RADIAN: f64 = 0.017453292519943295;
@@ -68,4 +70,13 @@ pub fn wide_km(grid: Grid, cosines: &[f64], km: f64, block: Block) -> f64
     ensures { λ r. ⌜ r ≡ wideKm (record { grid = grid; angles = []; cosines = now (cosines .entry) }) km block ⌝ }
 {
     widened_by(km, slack_km(grid, cosines, block))
+}
+
+// The kernel of a block's wide circle.
+pub fn wide_kernel(grid: Grid, angles: &[f64], cosines: &[f64], km: f64, block: Block) -> Kernel
+    requires { ⌜ CanWiden grid (now angles) (now cosines) block ⌝ }
+    ensures { λ k. ⌜ k ≡ wideKernel (globeOf grid (now (angles .entry)) (now (cosines .entry))) km block ⌝ }
+{
+    let row = blocks::probe(block).row;
+    kernel::build(grid, angles, row, wide_km(grid, cosines, km, block))
 }

@@ -3,6 +3,7 @@ mod bound;
 mod side;
 
 pub use bound::slack_km;
+pub use bound::wide_kernel;
 pub use bound::wide_km;
 pub use bound::widened_by;
 pub use side::initial_spacing;

@@ -1,4 +1,4 @@
--- The kernel that the walks leave is the kernel of the row and the radius.
+-- The kernel that the walks and the marking of runs leave is the kernel of the row and the radius.
 use Prim.Native.Nat.{ℕ, _-_, _≤_, _<_}
 use mathlib.Core.Path.{_≡_, sym, _∙_}
 use mathlib.Core.Bool.{true, false}
@@ -12,9 +12,9 @@ use Rattle.floats.specs.Binary.{whole}
 use Rattle.grid.specs.declared.Row.{Row}
 use Rattle.grid.specs.Grid.{angleOf}
 use Rattle.grid.specs.Map.{Globe}
-use Rattle.kernel.specs.Kernel.{rowReach, kernelOf}
-use Rattle.kernel.specs.Walk.{NorthWalked, SouthWalked, reachIn}
-use Rattle.kernel.proofs.Kernels.{made, kernel-is, reach-none, reach-off, reach-on}
+use Rattle.kernel.specs.Kernel.{rowReach, runEnd, rowRun, kernelOf}
+use Rattle.kernel.specs.Walk.{Filled, NorthWalked, SouthWalked, Outlined, reachIn, runIn}
+use Rattle.kernel.proofs.Kernels.{made, kernel-is, reach-none, reach-off, reach-on, run-on, run-off}
 
 -- a list of zeros has 0 at every place
 zeros : (n i : ℕ) → _≡_ {A = ℕ} (getD (replicate n 0) i 0) 0
@@ -25,9 +25,9 @@ zeros n i = elim (decLt i n) [
 
 module _ (s : Globe) (c : Row) (km : Float) (high : s .grid .height ≤ 90) (on : c .0 < s .grid .height) where
   -- radius 0
-  pub built-empty : eq km (whole 0) ≡ true → made c km (c .0) (c .0) (replicate 90 0) ≡ kernelOf s c km
+  pub built-empty : eq km (whole 0) ≡ true → made c km (c .0) (c .0) (replicate 90 0) (replicate 90 0) ≡ kernelOf s c km
   built-empty z =
-      kernel-is s c km high on (c .0) (c .0) (replicate 90 0)
+      kernel-is s c km high on (c .0) (c .0) (replicate 90 0) (replicate 90 0)
       (record {
         north-on = omega arith;
         end-on = omega arith;
@@ -36,6 +36,7 @@ module _ (s : Globe) (c : Row) (km : Float) (high : s .grid .height ≤ 90) (on 
         missed = λ r h. zeros 90 r;
       })
       (length-replicate {A = ℕ} 90 0) (λ r h. zeros 90 r ∙ sym (reach-none s c km r z))
+      (length-replicate {A = ℕ} 90 0) (λ r h. zeros 90 r ∙ sym (run-off s c km r (reach-none s c km r z)))
 
   -- another radius, where a row further out than one that is missed is missed
   module _ (z : eq km (whole 0) ≡ false)
@@ -76,14 +77,39 @@ module _ (s : Globe) (c : Row) (km : Float) (high : s .grid .height ≤ 90) (on 
       ]
     ]
 
-    pub built-walked : length last ≡ 90 → made c km n e last ≡ kernelOf s c km
-    built-walked len =
-        kernel-is s c km high on n e last
-        (record {
-          north-on = north .rows .ordered;
-          end-on = south .rows .ordered;
-          on = south .on;
+    pub built-outline : length last ≡ 90 → Outlined last n e
+    built-outline len =
+        record {
+          places = len;
+          ordered = omega (arith, north .rows .ordered, south .rows .ordered);
+          on = omega (arith, south .on);
           touched = λ r h u. let i = inside r h u in omega (arith, i .0, i .1);
-          missed = outside;
-        })
-        len (λ r h. each r)
+          missed = outside e (inr (omega arith));
+        }
+
+    module _ (runs : List ℕ) (marked : Filled (runIn last) n e (replicate 90 0) runs) where
+      unmarked : (r : ℕ) → (r < n) ⊎ (e ≤ r) → getD runs r 0 ≡ rowRun s c km r
+      unmarked r h = marked .kept r h ∙ zeros 90 r ∙ sym (run-off s c km r (sym (each r) ∙ outside r h))
+
+      each-run : (r : ℕ) → getD runs r 0 ≡ rowRun s c km r
+      each-run r = elim (decLt r n) [
+        | yes w ↦ unmarked r (inl w)
+        | no w ↦ elim (decLt r e) [
+          | yes v ↦
+              let i = inside r (omega arith) v in
+              marked .filled r (omega arith) v ∙ (λ i. runEnd (λ (j : ℕ). each j i) (90 - r) r) ∙ sym (run-on s c km r (omega (arith, i .0, i .1, each r)))
+          | no v ↦ unmarked r (inr (omega arith))
+        ]
+      ]
+
+      pub built-walked : length last ≡ 90 → length runs ≡ 90 → made c km n e last runs ≡ kernelOf s c km
+      built-walked len len-run =
+          kernel-is s c km high on n e last runs
+          (record {
+            north-on = north .rows .ordered;
+            end-on = south .rows .ordered;
+            on = south .on;
+            touched = built-outline len .touched;
+            missed = outside;
+          })
+          len (λ r h. each r) len-run (λ r h. each-run r)

@@ -1,4 +1,4 @@
--- A kernel's rows: which of them it touches, and what makes a kernel that of its row and radius.
+-- A kernel's rows: which of them it touches, where their runs end, and what makes a kernel that of its row and radius.
 use Prim.Native.Nat.{ℕ, _+_, _-_, _≤_, _<_}
 use mathlib.Core.Path.{_≡_, refl, sym, _∙_}
 use mathlib.Core.Bool.{Bool, true, false, cond, _||_}
@@ -21,9 +21,10 @@ use Rattle.grid.specs.Grid.{angleOf}
 use Rattle.grid.specs.Map.{Globe}
 use Rattle.grid.proofs.SheetOrder.{InOrder}
 use Rattle.kernel.specs.declared.Kernel.{Kernel}
-use Rattle.kernel.specs.Kernel.{reach, rowReach, kernelOf, Banded}
+use Rattle.kernel.specs.Kernel.{reach, rowReach, runEnd, rowRun, kernelOf, Banded, Joined}
 use Rattle.lists.proofs.Counts.{count-is, count-le, count-tests}
 use Rattle.kernel.proofs.Reaches.{missed-beyond}
+use Rattle.kernel.proofs.RowRuns.{run-onward, run-alike}
 
 -- ---- a row's reach
 
@@ -51,14 +52,28 @@ module _ (s : Globe) (c : Row) (km : Float) where
       cases (eq km (whole 0)) (λ z. reach-none t z)
       (λ z. reach-on t T′ z ∙ missed-beyond s q (c .0) C (angleOf (s .grid) km) r t T′ p (sym (reach-on r R z) ∙ e))
 
+  -- a row's run
+  pub run-on : (r : ℕ) → 0 < rowReach s c km r → rowRun s c km r ≡ runEnd (rowReach s c km) (90 - r) r
+  unfolding rowRun
+  run-on r h = rw (lt-ltb 0 (rowReach s c km r) h)
+
+  pub run-off : (r : ℕ) → rowReach s c km r ≡ 0 → rowRun s c km r ≡ 0
+  unfolding rowRun
+  run-off r e = rw (le-ltb 0 (rowReach s c km r) (omega arith))
+
 -- ---- a kernel's band
 
--- a kernel by its last three fields
-abbrev pub made : Row → Float → ℕ → ℕ → List ℕ → Kernel
-made c km n e l = record { row = c; km = km; north = n; end = e; reach = l }
+-- a kernel by its last four fields
+abbrev pub made : Row → Float → ℕ → ℕ → List ℕ → List ℕ → Kernel
+made c km n e l u = record { row = c; km = km; north = n; end = e; reach = l; run = u }
 
-made-same : (c : Row) (km : Float) {n n′ e e′ : ℕ} {l l′ : List ℕ} → n ≡ n′ → e ≡ e′ → l ≡ l′ → made c km n e l ≡ made c km n′ e′ l′
-made-same c km p q r = rw (p, q, r)
+made-same : (c : Row) (km : Float) {n n′ e e′ : ℕ} {l l′ u u′ : List ℕ} → n ≡ n′ → e ≡ e′ → l ≡ l′ → u ≡ u′ → made c km n e l u ≡ made c km n′ e′ l′ u′
+made-same c km p q r t = rw (p, q, r, t)
+
+list-is : (f : ℕ → ℕ) (l : List ℕ) → length l ≡ 90 → ((r : ℕ) → r < 90 → getD l r 0 ≡ f r) → l ≡ tabulate f 90
+list-is f l len same =
+    ext-getD 0 l (tabulate f 90) (len ∙ sym (length-tabulate f 90))
+    (λ r h. same r (omega (arith, len)) ∙ sym (getD-tabulate f 90 r 0 (omega (arith, len))))
 
 module _ (s : Globe) (c : Row) (km : Float) (high : s .grid .height ≤ 90) (on : c .0 < s .grid .height) where
   abbrev missedNorth : ℕ → Bool
@@ -67,7 +82,9 @@ module _ (s : Globe) (c : Row) (km : Float) (high : s .grid .height ≤ 90) (on 
   abbrev touchedSouth : ℕ → Bool
   touchedSouth i = ltb 0 (rowReach s c km (c .0 + i))
 
-  module _ (n e : ℕ) (l : List ℕ) (b : Banded (s .grid) (made c km n e l)) (len : length l ≡ 90) (same : (r : ℕ) → r < 90 → getD l r 0 ≡ rowReach s c km r) where
+  module _ (n e : ℕ) (l u : List ℕ) (b : Banded (s .grid) (made c km n e l u))
+      (len : length l ≡ 90) (same : (r : ℕ) → r < 90 → getD l r 0 ≡ rowReach s c km r)
+      (len-run : length u ≡ 90) (same-run : (r : ℕ) → r < 90 → getD u r 0 ≡ rowRun s c km r) where
     north-is : sumBelow (c .0) (λ r. one (missedNorth r)) ≡ n
     north-is =
         count-is missedNorth (c .0) n (b .north-on)
@@ -84,20 +101,19 @@ module _ (s : Globe) (c : Row) (km : Float) (high : s .grid .height ≤ 90) (on 
         let t = b .missed (c .0 + i) (inr (omega (arith, b .end-on))) in
         le-ltb 0 (rowReach s c km (c .0 + i)) (omega (arith, t, same (c .0 + i) (omega arith))))
 
-    list-is : l ≡ tabulate (rowReach s c km) 90
-    list-is =
-        ext-getD 0 l (tabulate (rowReach s c km) 90) (len ∙ sym (length-tabulate (rowReach s c km) 90))
-        (λ r h. same r (omega (arith, len)) ∙ sym (getD-tabulate (rowReach s c km) 90 r 0 (omega (arith, len))))
-
-    -- a banded kernel with the reaches of a row and a radius is their kernel
-    pub kernel-is : made c km n e l ≡ kernelOf s c km
+    -- a banded kernel with the reaches and the runs of a row and a radius is their kernel
+    pub kernel-is : made c km n e l u ≡ kernelOf s c km
     unfolding kernelOf
-    kernel-is = made-same c km (sym north-is) (omega (arith, south-is, b .end-on)) list-is
+    kernel-is = made-same c km (sym north-is) (omega (arith, south-is, b .end-on)) (list-is (rowReach s c km) l len same) (list-is (rowRun s c km) u len-run same-run)
 
   -- the reach that a kernel has for a row
   pub kernel-reach : (r : ℕ) → r < 90 → getD (kernelOf s c km .reach) r 0 ≡ rowReach s c km r
   unfolding kernelOf
   kernel-reach r h = getD-tabulate (rowReach s c km) 90 r 0 h
+
+  kernel-run : (r : ℕ) → r < 90 → getD (kernelOf s c km .run) r 0 ≡ rowRun s c km r
+  unfolding kernelOf
+  kernel-run r h = getD-tabulate (rowRun s c km) 90 r 0 h
 
   kernel-none : (r : ℕ) → s .grid .height ≤ r → getD (kernelOf s c km .reach) r 0 ≡ 0
   unfolding kernelOf
@@ -182,3 +198,38 @@ module _ (s : Globe) (c : Row) (km : Float) (high : s .grid .height ≤ 90) (on 
     pub kernel-banded : Banded (s .grid) (kernelOf s c km)
     unfolding kernelOf
     kernel-banded = record { north-on = north-le; end-on = end-ge; on = end-le; touched = touched-at; missed = missed-at }
+
+    -- ---- its runs
+
+    abbrev until : ℕ → ℕ
+    until r = getD (kernelOf s c km .run) r 0
+
+    reach-some : (r : ℕ) → kernelOf s c km .north ≤ r → r < kernelOf s c km .end → 0 < rowReach s c km r
+    reach-some r h u = omega (arith, touched-at r h u, kernel-reach r (omega (arith, end-le)))
+
+    reach-last : rowReach s c km (kernelOf s c km .end) ≡ 0
+    reach-last = elim (decLt (kernelOf s c km .end) (s .grid .height)) [
+      | yes p ↦ sym (kernel-reach (kernelOf s c km .end) (omega arith)) ∙ missed-at (kernelOf s c km .end) (inr (omega arith))
+      | no p ↦ reach-off s c km (kernelOf s c km .end) (omega arith)
+    ]
+
+    module _ (r : ℕ) (h : kernelOf s c km .north ≤ r) (u : r < kernelOf s c km .end) where
+      run-at : until r ≡ runEnd (rowReach s c km) (90 - r) r
+      run-at = kernel-run r (omega (arith, end-le)) ∙ run-on s c km r (reach-some r h u)
+
+      run-reach : (i : ℕ) → r ≤ i → i < until r → rowReach s c km i ≡ rowReach s c km r
+      run-reach i p q = run-alike (rowReach s c km) (90 - r) r i p (omega (arith, run-at))
+
+      run-within : until r ≤ kernelOf s c km .end
+      run-within = elim (decLt (kernelOf s c km .end) (until r)) [
+        | yes p ↦ let e = run-reach (kernelOf s c km .end) (omega arith) p in absurd (omega (arith, e, reach-last, reach-some r h u))
+        | no p ↦ omega arith
+      ]
+
+      run-same : (i : ℕ) → r ≤ i → i < until r → at i ≡ at r
+      run-same i p q =
+          kernel-reach i (omega (arith, run-within, end-le)) ∙ run-reach i p q ∙ sym (kernel-reach r (omega (arith, end-le)))
+
+    pub kernel-joined : Joined (kernelOf s c km)
+    kernel-joined =
+        record { onward = λ r h u. omega (arith, run-at r h u, run-onward (rowReach s c km) (90 - r) r); within = run-within; alike = run-same }

@@ -3,13 +3,14 @@ pub mod Angle
 pub mod Circles
 pub mod Populations
 pub mod Reaches
+pub mod Edges
 pub mod Walks
+pub mod RowRuns
 pub mod Kernels
 pub mod Built
 pub mod Cells
 pub mod WholeGrid
 pub mod People
-pub mod Alike
 pub mod Calls
 pub mod Placing
 pub mod Accepted

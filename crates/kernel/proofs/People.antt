@@ -1,6 +1,6 @@
 -- The people of a kernel's cells, row by row.
-use Prim.Native.Nat.{ℕ, _-_, _≤_, _<_, zero-le}
-use mathlib.Core.Path.{_≡_, sym, _∙_}
+use Prim.Native.Nat.{ℕ, _+_, _-_, _≤_, _<_, zero-le}
+use mathlib.Core.Path.{_≡_, sym, ap, _∙_}
 use mathlib.Core.Bool.{cond}
 use mathlib.Core.List.{List}
 use mathlib.Core.Logic.{inl, inr}
@@ -12,12 +12,14 @@ use lib.Dec.{ltb, leb}
 use lib.ListN.{getD}
 use Rattle.lists.specs.Counted.{sumBelow}
 use Rattle.lists.proofs.Bools.{cond-case}
-use Rattle.lists.proofs.Sums.{sum-ext, sum-zeros, sum-le, sum-grows, sum-seg, seg-zeros}
+use Rattle.lists.proofs.Sums.{sum-ext, sum-zeros, sum-le, sum-grows, sum-seg, seg-same, seg-zeros}
 use Rattle.grid.specs.declared.Col.{Col}
 use Rattle.grid.specs.Grid.{columnDistance, cell}
 use Rattle.grid.specs.Map.{Map, count}
 use Rattle.table.specs.Table.{corner, total}
-use Rattle.table.specs.Summed.{rowSpan}
+use Rattle.table.specs.Summed.{rowSpan, bandSpan}
+use Rattle.table.specs.declared.RowBand.{RowBand}
+use Rattle.table.proofs.Bands.{band-span-rows}
 use Rattle.kernel.specs.declared.Kernel.{Kernel}
 use Rattle.kernel.specs.Kernel.{inKernel, kernelPopulation, Banded}
 
@@ -27,6 +29,10 @@ below-pred d n h = elim (decLt d n) [
   | yes p ↦ lt-ltb d n p ∙ sym (le-leb d (n - 1) (omega arith))
   | no p ↦ le-ltb d n (omega arith) ∙ sym (lt-leb d (n - 1) (omega arith))
 ]
+
+-- the rows from one up to another
+abbrev pub rowsTo : ℕ → ℕ → RowBand
+rowsTo r e = record { north = record { 0 = r }; south = record { 0 = e - 1 } }
 
 module _ (m : Map) (col : Col) (reaches : List ℕ) where
   -- the people of a row within its reach
@@ -44,6 +50,18 @@ module _ (m : Map) (col : Col) (reaches : List ℕ) where
   unfolding reachPeople rowSpan
   people-touched r h =
       sum-ext (m .globe .grid .width) _ _ (λ i I. rw (below-pred (columnDistance (m .globe .grid .width) (col .0) i) (getD reaches r 0) h))
+
+  -- the people of the rows of a run
+  pub people-run : (r e : ℕ) → r < e → e ≤ m .globe .grid .height → 0 < getD reaches r 0
+      → ((i : ℕ) → r ≤ i → i < e → getD reaches i 0 ≡ getD reaches r 0)
+      → sumBelow e reachPeople ≡ sumBelow r reachPeople + bandSpan m (rowsTo r e) col (getD reaches r 0 - 1)
+  people-run r e l h t same =
+      let half = getD reaches r 0 - 1 in
+      let each = seg-same r e reachPeople (λ i. rowSpan m (record { 0 = i }) col half)
+      (λ i p q. people-touched i (omega (arith, same i p q)) ∙ ap (λ (n : ℕ). rowSpan m (record { 0 = i }) col (n - 1)) (same i p q)) in
+      let last : e - 1 + 1 ≡ e = omega arith in
+      let band = rw last at (band-span-rows m (rowsTo r e) col half (omega arith) (omega arith)) in
+      omega (arith, sum-seg r e reachPeople (omega arith), each, band)
 
   pub people-total : (n : ℕ) → n ≤ m .globe .grid .height → sumBelow n reachPeople ≤ total m
   unfolding total corner reachPeople

@@ -1,30 +1,73 @@
--- From an accepted map to what the kernel's functions ask and give: its sheet, a kernel placed on its table, and the circle's people.
-use Prim.Native.Nat.{ℕ, _<_}
+-- What the kernel's functions ask and give: a kernel by its rows, one of a sheet on a table, and from an accepted map its sheet, a kernel
+-- placed on its table and the circle's people.
+use Prim.Native.Nat.{ℕ, _≤_, _<_}
 use mathlib.Core.Path.{_≡_, refl, ap, _∙_}
 use mathlib.Core.List.{List}
 use lib.Ieee.{Float}
+use native.Mathlib.Omega.{arith}
 use Rattle.grid.specs.declared.Row.{Row}
 use Rattle.grid.specs.declared.Col.{Col}
+use Rattle.grid.specs.declared.Grid.{Grid}
 use Rattle.grid.specs.Map.{Globe, Map, angleAt, count}
 use Rattle.grid.proofs.Answers.{Passed}
 use Rattle.grid.proofs.Sizes.{grid-sizes}
 use Rattle.grid.proofs.SheetOrder.{InOrder, in-order}
-use Rattle.table.specs.Summed.{tableMap, countsMap, Summed}
+use Rattle.table.specs.Summed.{tableMap, countsMap, globeMap, Summed}
 use Rattle.kernel.specs.declared.Kernel.{Kernel}
 use Rattle.kernel.specs.Circle.{population}
-use Rattle.kernel.specs.Kernel.{reach, rowReach, kernelOf, inKernel, kernelPopulation, sheetOf, OnSheet, Placed}
-use Rattle.kernel.proofs.Kernels.{kernel-banded}
+use Rattle.kernel.specs.Kernel.{reach, rowReach, rowRun, kernelOf, inKernel, kernelPopulation, globeOf, sheetOf, OnSheet, Banded, Joined, rowsOnly, Placed}
+use Rattle.kernel.proofs.Kernels.{kernel-banded, kernel-joined}
 use Rattle.kernel.proofs.Cells.{kernel-people}
 
 -- kernels read no cosine
 pub kernel-sheet : (s : Globe) (row : Row) (km : Float) → kernelOf (sheetOf (s .grid) (s .angles)) row km ≡ kernelOf s row km
-unfolding kernelOf rowReach reach angleAt
+unfolding kernelOf rowRun rowReach reach angleAt
 kernel-sheet s row km = refl
 
 -- and their people no sheet
 pub people-sheet : (m : Map) (k : Kernel) (col : Col) → kernelPopulation (countsMap (m .globe .grid) (m .counts)) k col ≡ kernelPopulation m k col
 unfolding kernelPopulation inKernel count
 people-sheet m k col = refl
+
+-- ---- a kernel by its rows alone
+
+abbrev pub rowsOf : Kernel → Kernel
+rowsOf k = rowsOnly (k .north) (k .end) (k .reach) (k .run)
+
+pub rows-placed : {g : Grid} {sums : List ℕ} {k : Kernel} {col : Col} → Placed g sums k col → Placed g sums (rowsOf k) col
+rows-placed p =
+    let b = p .band in
+    record {
+      table = p .table;
+      band = record { north-on = omega arith; end-on = omega (arith, b .north-on, b .end-on); on = b .on; touched = b .touched; missed = b .missed };
+      runs = record { onward = p .runs .onward; within = p .runs .within; alike = p .runs .alike };
+      on = p .on;
+    }
+
+pub rows-people : (m : Map) (k : Kernel) (col : Col) → kernelPopulation m (rowsOf k) col ≡ kernelPopulation m k col
+unfolding kernelPopulation inKernel
+rows-people m k col = refl
+
+-- ---- a kernel of a sheet, on a table
+
+module _ (g : Grid) (angles cosines : List Float) (row : Row) (km : Float) where
+  module _ (q : InOrder (globeOf g angles cosines)) (high : g .height ≤ 90) (on : row .0 < g .height) where
+    pub sheet-banded : Banded g (kernelOf (sheetOf g angles) row km)
+    sheet-banded = rw (kernel-sheet (globeOf g angles cosines) row km) (kernel-banded (globeOf g angles cosines) row km high on q)
+
+    pub sheet-joined : Joined (kernelOf (sheetOf g angles) row km)
+    sheet-joined = rw (kernel-sheet (globeOf g angles cosines) row km) (kernel-joined (globeOf g angles cosines) row km high on q)
+
+    -- a kernel of the sheet over a table has the people of the circle of the map that they make
+    pub sheet-people : (sums : List ℕ) (col : Col)
+        → kernelPopulation (tableMap g sums) (kernelOf (sheetOf g angles) row km) col
+        ≡ population (globeMap (globeOf g angles cosines) sums) km (record { row = row; col = col })
+    sheet-people sums col =
+        let m = globeMap (globeOf g angles cosines) sums in
+        people-sheet m (kernelOf (sheetOf g angles) row km) col ∙ ap (λ (k : Kernel). kernelPopulation m k col) (kernel-sheet (m .globe) row km)
+        ∙ kernel-people m q high row on km col
+
+-- ---- on a map that is accepted
 
 module _ (m : Map) (p : Passed m) (row : Row) (on : row .0 < m .globe .grid .height) where
   pub on-sheet : OnSheet (m .globe .grid) (m .globe .angles) row
@@ -40,7 +83,8 @@ module _ (m : Map) (p : Passed m) (row : Row) (on : row .0 < m .globe .grid .hei
 
     pub placed : Summed (m .globe .grid) sums → col .0 < m .globe .grid .width → Placed (m .globe .grid) sums k col
     placed t c =
-        record { table = t; band = rw built (kernel-banded (m .globe) row km (grid-sizes (m .globe .grid) (p .grid .sizes) .rows) on order); on = c }
+        let high = grid-sizes (m .globe .grid) (p .grid .sizes) .rows in
+        record { table = t; band = rw built (kernel-banded (m .globe) row km high on order); runs = rw built (kernel-joined (m .globe) row km high on order); on = c }
 
     pub circle-people : tableMap (m .globe .grid) sums ≡ countsMap (m .globe .grid) (m .counts)
         → kernelPopulation (tableMap (m .globe .grid) sums) k col ≡ population m km (record { row = row; col = col })

@@ -1,5 +1,5 @@
 -- The reach of a circle in a row: the offsets within an angle are those below it, and the rows reached are one band around the centre row.
-use Prim.Native.Nat.{ℕ, _+_, _*_, _≤_, _<_}
+use Prim.Native.Nat.{ℕ, _+_, _-_, _*_, _≤_, _<_}
 use mathlib.Core.Path.{_≡_, refl, sym, _∙_}
 use mathlib.Core.Bool.{Bool, true, false}
 use mathlib.Core.List.{List}
@@ -18,6 +18,7 @@ use Rattle.grid.specs.Questions.{angle, sheetComplete}
 use Rattle.grid.proofs.Sizes.{Sizes, grid-sizes}
 use Rattle.grid.proofs.SheetOrder.{InOrder, in-order, offsets-first, rows-band}
 use Rattle.kernel.specs.Kernel.{reach, globeOf, sheetOf, Sheet}
+use Rattle.kernel.specs.Walk.{Edge}
 use Rattle.lists.proofs.Counts.{count-is, count-tests}
 
 -- whether an offset of a row is within an angle
@@ -30,13 +31,17 @@ module _ (s : Globe) (q : InOrder s) (c : ℕ) (C : c < s .grid .height) (limit 
     unfolding inside
     inside-first i j h l e = offsets-first s q c C r R limit i j h (omega arith) e
 
-    -- what the test of one offset says of those before it, and of those after it
-    pub inside-below : (m : ℕ) → m ≤ closing (s .grid) → inside s c r limit m ≡ true → (k : ℕ) → k < m + 1 → inside s c r limit k ≡ true
-    inside-below m l e k h = inside-first k m (omega arith) (omega arith) e
+    -- the reach by the tests on either side of it
+    pub reach-edge : (n : ℕ) → Edge (inside s c r limit) 0 (closing (s .grid) + 1) n → reach s (record { 0 = c }) (record { 0 = r }) limit ≡ n
+    unfolding reach inside
+    reach-edge n e = count-is (inside s c r limit) (closing (s .grid) + 1) n (e .to) pass fail
+      where
+        pass : (k : ℕ) → k < n → inside s c r limit k ≡ true
+        pass k h = inside-first k (n - 1) (omega arith) (omega (arith, e .to)) (e .passed (omega arith))
 
-    pub outside-above : (m : ℕ) → inside s c r limit m ≡ false → (k : ℕ) → m ≤ k → k < closing (s .grid) + 1 → inside s c r limit k ≡ false
-    outside-above m e k h l =
-        cases (inside s c r limit k) (λ f. absurd (not-both (inside s c r limit m) (inside-first m k h l f) e)) (λ f. f)
+        fail : (k : ℕ) → n ≤ k → k < closing (s .grid) + 1 → inside s c r limit k ≡ false
+        fail k h l =
+            cases (inside s c r limit k) (λ f. absurd (not-both (inside s c r limit n) (inside-first n k h l f) (e .failed (omega arith)))) (λ f. f)
 
     -- an offset is within the angle where it is below the reach
     pub reach-tests : (k : ℕ) → k ≤ closing (s .grid)
@@ -58,13 +63,6 @@ module _ (s : Globe) (q : InOrder s) (c : ℕ) (C : c < s .grid .height) (limit 
       between : (c ≤ r × r ≤ t) ⊎ (t ≤ r × r ≤ c) → t < s .grid .height → r < s .grid .height
       between (inl w) l = omega (arith, w .1)
       between (inr w) l = omega (arith, w .1)
-
--- the reach by the first offset that is not within the angle
-pub reach-is : (s : Globe) (c r : ℕ) (limit : Float) (n : ℕ) → n ≤ closing (s .grid) + 1
-    → ((k : ℕ) → k < n → inside s c r limit k ≡ true) → ((k : ℕ) → n ≤ k → k < closing (s .grid) + 1 → inside s c r limit k ≡ false)
-    → reach s (record { 0 = c }) (record { 0 = r }) limit ≡ n
-unfolding reach inside
-reach-is s c r limit n h pass fail = count-is (inside s c r limit) (closing (s .grid) + 1) n h pass fail
 
 -- reaches read no cosine
 pub reach-sheet : (g : Grid) (angles cosines : List Float) (c r : Row) (limit : Float)
@@ -89,17 +87,6 @@ module _ {g : Grid} {angles : List Float} (t : Sheet g angles) where
 
   pub sheet-high : g .height ≤ 90
   sheet-high = sheet-sizes .rows
-
-  -- where the last offset of a row is within the angle, all are
-  pub reach-full : (c r : Row) → c .0 < g .height → r .0 < g .height → (limit : Float)
-      → le (angleAt (sheetOf g angles) c r (closing g)) limit ≡ true → closing g + 1 ≡ reach (sheetOf g angles) c r limit
-  unfolding inside angleAt
-  reach-full c r C R limit e =
-      let s = globeOf g angles (t .cosines) in
-      sym (reach-is s (c .0) (r .0) limit (closing g + 1) (omega arith)
-      (inside-below s sheet-order (c .0) C limit (r .0) R (closing g) (omega arith) e)
-      (λ k h u. absurd (omega arith)))
-      ∙ reach-sheet g angles (t .cosines) c r limit
 
   pub sheet-beyond : (c : Row) → c .0 < g .height → (limit : Float) (r u : ℕ) → u < g .height → (c .0 ≤ r × r ≤ u) ⊎ (u ≤ r × r ≤ c .0)
       → reach (sheetOf g angles) c (record { 0 = r }) limit ≡ 0 → reach (sheetOf g angles) c (record { 0 = u }) limit ≡ 0

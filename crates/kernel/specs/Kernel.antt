@@ -1,6 +1,6 @@
 -- Kernels: the circles of a radius around the cells of one row, by how many columns each row gives on either side. A kernel is a set of
 -- cells around each column.
-use Prim.Native.Nat.{ℕ, _+_, _-_, _≤_, _<_}
+use Prim.Native.Nat.{ℕ, zero, suc, _+_, _-_, _≤_, _<_}
 use mathlib.Core.Path.{_≡_}
 use mathlib.Core.Bool.{Bool, true, cond, _||_}
 use mathlib.Core.List.{List, []}
@@ -35,6 +35,15 @@ rowReach s centre km row =
 abbrev pub rowPlaces : ℕ
 rowPlaces = 90
 
+-- where the run of one value that a place is in ends, looked for among the n places after it
+unfoldable pub runEnd : (ℕ → ℕ) → ℕ → ℕ → ℕ
+runEnd f zero i = i + 1
+runEnd f (suc n) i = let longer = runEnd f n (i + 1) in cond (eqb (f (i + 1)) (f i)) longer (i + 1)
+
+-- where the run of rows of one reach ends, for a row that is touched
+unfoldable pub rowRun : Globe → Row → Float → ℕ → ℕ
+rowRun s centre km row = let end = runEnd (rowReach s centre km) (rowPlaces - row) row in cond (ltb 0 (rowReach s centre km row)) end 0
+
 -- the kernel of a centre row and a radius: the rows touched are those from north up to end
 unfoldable pub kernelOf : Globe → Row → Float → Kernel
 kernelOf s row km =
@@ -44,6 +53,7 @@ kernelOf s row km =
       north = sumBelow (row .0) (λ r. one (eqb (rowReach s row km r) 0));
       end = row .0 + sumBelow (s .grid .height - row .0) (λ i. one (ltb 0 (rowReach s row km (row .0 + i))));
       reach = tabulate (rowReach s row km) rowPlaces;
+      run = tabulate (rowRun s row km) rowPlaces;
     }
 
 -- the set of cells that a kernel holds around a column of its row
@@ -89,13 +99,24 @@ pub record Banded (g : Grid) (k : Kernel) : Type 0 where
   pub touched : (r : ℕ) → k .north ≤ r → r < k .end → 0 < getD (k .reach) r 0
   pub missed : (r : ℕ) → (r < k .north) ⊎ (k .end ≤ r) → getD (k .reach) r 0 ≡ 0
 
+-- a kernel's runs: each ends within the band, after its row, and has the reach of its row
+pub record Joined (k : Kernel) : Type 0 where
+  pub onward : (r : ℕ) → k .north ≤ r → r < k .end → r < getD (k .run) r 0
+  pub within : (r : ℕ) → k .north ≤ r → r < k .end → getD (k .run) r 0 ≤ k .end
+  pub alike : (r : ℕ) → k .north ≤ r → r < k .end → (i : ℕ) → r ≤ i → i < getD (k .run) r 0 → getD (k .reach) i 0 ≡ getD (k .reach) r 0
+
+-- a kernel by its rows alone: its people hang on nothing else
+abbrev pub rowsOnly : ℕ → ℕ → List ℕ → List ℕ → Kernel
+rowsOnly north end reach run = record { row = record { 0 = north }; km = whole 0; north = north; end = end; reach = reach; run = run }
+
 -- a table, a kernel and a column of one grid
 pub record Placed (g : Grid) (sums : List ℕ) (k : Kernel) (col : Col) : Type 0 where
   pub table : Summed g sums
   pub band : Banded g k
+  pub runs : Joined k
   pub on : col .0 < g .width
 
 -- opens all of the above, for facts that are computed
 unfoldable pub kernels : Unit {0}
-unfolding reach rowReach kernelOf inKernel kernelPopulation kernelCovers
+unfolding reach rowReach runEnd rowRun kernelOf inKernel kernelPopulation kernelCovers
 kernels = tt

@@ -1,20 +1,32 @@
--- What the walks from the centre row outward are told, and what they leave in the array of reaches.
-use Prim.Native.Nat.{ℕ, _-_, _≤_, _<_}
+-- What the walks from the centre row outward are told, and what they leave in the arrays of reaches and runs.
+use Prim.Native.Nat.{ℕ, _+_, _-_, _≤_, _<_}
 use mathlib.Core.Path.{_≡_}
+use mathlib.Core.Bool.{Bool, true, false}
 use mathlib.Core.List.{List}
 use mathlib.Core.Logic.{_⊎_}
-use lib.ListN.{getD}
-use lib.Ieee.{Float}
+use lib.ListN.{length, getD}
+use lib.Ieee.{Float, nan, le}
 use Rattle.grid.specs.declared.Row.{Row}
 use Rattle.grid.specs.declared.Grid.{Grid}
 use Rattle.grid.specs.Map.{Globe}
-use Rattle.kernel.specs.Kernel.{reach, Sheet}
+use Rattle.kernel.specs.Kernel.{reach, Sheet, rowPlaces, runEnd}
 
 -- a tested sheet, a centre row and a row of the grid
 pub record PairOnSheet (g : Grid) (angles : List Float) (centre row : Row) : Type 0 where
   pub sheet : Sheet g angles
   pub centre-on : centre .0 < g .height
   pub row-on : row .0 < g .height
+
+-- whether the angle at an offset of the row that starts at a place is within the limit
+abbrev pub passes : List Float → ℕ → Float → ℕ → Bool
+passes angles first limit k = le (getD angles (first + k) nan) limit
+
+-- where, from low up to high, a test stops passing: it passes just before n, unless n is low, and fails at n, unless n is high
+pub record Edge (p : ℕ → Bool) (low high n : ℕ) : Type 0 where
+  pub from : low ≤ n
+  pub to : n ≤ high
+  pub passed : low < n → p (n - 1) ≡ true
+  pub failed : n < high → p n ≡ false
 
 -- the values of f, none of them 0, have come into the places from start up to end, and the other places are as they were
 pub record Filled (f : ℕ → ℕ) (start end : ℕ) (was is : List ℕ) : Type 0 where
@@ -36,3 +48,15 @@ pub record SouthWalked (s : Globe) (centre : Row) (limit : Float) (was is : List
   pub rows : Filled (reachIn s centre limit) (centre .0) end was is
   pub on : end ≤ s .grid .height
   pub missed : end < s .grid .height → reachIn s centre limit end ≡ 0
+
+-- the rows from north up to end are touched, and the next one south is missed
+pub record Outlined (reaches : List ℕ) (north end : ℕ) : Type 0 where
+  pub places : length reaches ≡ rowPlaces
+  pub ordered : north ≤ end
+  pub on : end ≤ rowPlaces
+  pub touched : (r : ℕ) → north ≤ r → r < end → 0 < getD reaches r 0
+  pub missed : getD reaches end 0 ≡ 0
+
+-- where the run of a row ends
+abbrev pub runIn : List ℕ → ℕ → ℕ
+runIn reaches row = runEnd (λ r. getD reaches r 0) (rowPlaces - row) row

@@ -1,19 +1,23 @@
 // A kernel, built and summed over the band of rows that it touches.
 use crate::Kernel;
 use crate::outward;
+use crate::runs;
 use grid::Col;
 use grid::Grid;
 use grid::Row;
+use table::RowBand;
 ghost use mathlib.Core.Path.{_≡_};
-ghost use Rattle.kernel.specs.Kernel.{kernelOf, sheetOf, OnSheet, kernelPopulation, Placed};
+ghost use Rattle.kernel.specs.Kernel.{kernelOf, sheetOf, OnSheet, kernelPopulation, rowsOnly, Placed};
 ghost use Rattle.table.specs.Summed.{tableMap};
 
 // North and then south from the centre row, each way up to the first row missed: the rows touched are one band.
+// The centre row's reach is what either walk looks from.
 pub fn build(grid: Grid, angles: &[f64], row: Row, km: f64) -> Kernel
     requires { ⌜ OnSheet grid (now angles) row ⌝ }
     ensures { λ k. ⌜ k ≡ kernelOf (sheetOf grid (now (angles .entry))) row km ⌝ }
 {
     let mut reach = [0u8; 90];
+    let mut run = [0u8; 90];
     if km == 0.0 {
         return Kernel {
             row,
@@ -21,33 +25,55 @@ pub fn build(grid: Grid, angles: &[f64], row: Row, km: f64) -> Kernel
             north: row.0,
             end: row.0,
             reach,
+            run,
         };
     }
     let limit = grid::angle_of(grid, km);
-    let north = outward::walk_north(grid, angles, row, limit, &mut reach);
-    let end = outward::walk_south(grid, angles, row, limit, &mut reach);
+    let guess = outward::reach_by_halves(grid, angles, row, row, limit);
+    let north = outward::walk_north(grid, angles, row, limit, guess, &mut reach);
+    let end = outward::walk_south(grid, angles, row, limit, guess, &mut reach);
+    runs::mark(&reach, north, end, &mut run);
     Kernel {
         row,
         km,
         north,
         end,
         reach,
+        run,
     }
 }
 
-// The people of the cells that the kernel holds around a column.
-pub fn circle_population(grid: Grid, sums: &[u64], kernel: Kernel, col: Col) -> u64
-    requires { ⌜ Placed grid (now sums) kernel col ⌝ }
-    ensures { λ r. ⌜ r ≡ kernelPopulation (tableMap grid (now (sums .entry))) kernel col ⌝ }
+fn wide(x: u8) -> u32
+    ensures { λ r. ⌜ r ≡ x ⌝ }
 {
-    let reach = kernel.reach;
-    let end = kernel.end;
+    x as u32
+}
+
+// The people of the cells that a kernel of these rows holds around a column: the rows of a run are one band of the table. The rows are
+// lent, since a copy would cost as much as a small circle.
+pub fn circle_population<'a>(
+    grid: Grid,
+    sums: &[u64],
+    north: u32,
+    end: u32,
+    reach: &'a [u8; 90],
+    run: &'a [u8; 90],
+    col: Col,
+) -> u64
+    requires { ⌜ Placed grid (now sums) (rowsOnly north end (now reach) (now run)) col ⌝ }
+    ensures { λ r. ⌜ r ≡ kernelPopulation (tableMap grid (now (sums .entry))) (rowsOnly north end (now (reach .entry)) (now (run .entry))) col ⌝ }
+{
     let mut people: u64 = 0;
-    let mut row = kernel.north;
+    let mut row = north;
     while row < end {
-        let n = reach[row as usize] as u32;
-        people += table::row_span(grid, sums, Row(row), col, n - 1);
-        row += 1;
+        let n = wide(reach[row as usize]);
+        let next = wide(run[row as usize]);
+        let band = RowBand {
+            north: Row(row),
+            south: Row(next - 1),
+        };
+        people += table::band_span(grid, sums, band, col, n - 1);
+        row = next;
     }
     people
 }

@@ -62,6 +62,14 @@ pub fn circle(
     }
     table::fill_sums(grid, counts, sums);
     let kernel = crate::build(grid, angles, centre.row, km as f64);
-    let people = crate::circle_population(grid, sums, kernel, centre.col);
+    let people = crate::circle_population(
+        grid,
+        sums,
+        kernel.north,
+        kernel.end,
+        &kernel.reach,
+        &kernel.run,
+        centre.col,
+    );
     CircleAnswer::Population(people)
 }

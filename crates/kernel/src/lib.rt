@@ -3,6 +3,7 @@ mod band;
 mod call;
 mod cover;
 mod outward;
+mod runs;
 
 pub use band::build;
 pub use band::circle_population;
@@ -13,13 +14,14 @@ use grid::Row;
 pub use outward::within;
 
 // The circles of a radius around the cells of a row: in each row from north up to end, how many columns from the centre's one on either
-// side are within, the centre's own included.
+// side are within, the centre's own included, and where the rows of the same reach that follow it end.
 pub struct Kernel {
     pub row: Row,
     pub km: f64,
     pub north: u32,
     pub end: u32,
     pub reach: [u8; 90],
+    pub run: [u8; 90],
 }
 
 pub enum CircleAnswer {

@@ -2,7 +2,7 @@
 pub mod Rule
 pub mod Counts
 pub mod Finds
-pub mod HeldKernels
+pub mod Serving
 pub mod OneBlock
 pub mod Spans
 pub mod Sweeps

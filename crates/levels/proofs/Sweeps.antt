@@ -13,21 +13,20 @@ use Rattle.lists.proofs.Writes.{writing-start, writing-more, writing-done, writ
 use Rattle.grid.specs.declared.Grid.{Grid}
 use Rattle.grid.specs.Map.{Map}
 use Rattle.grid.proofs.Sizes.{grid-sizes}
-use Rattle.kernel.specs.Kernel.{kernelOf, Sheet, OnSheet}
+use Rattle.kernel.specs.Kernel.{Sheet, OnSheet}
 use Rattle.blocks.specs.declared.Block.{Block}
 use Rattle.blocks.specs.Block.{area, split, Rectangle}
 use Rattle.blocks.specs.Word.{wordOf, blockOf, Written, CanSplit}
 use Rattle.blocks.proofs.Tiles.{length-area, split-rectangle, split-settled}
 use Rattle.candidates.specs.declared.Held.{Held}
-use Rattle.levels.specs.declared.ChunkWork.{ChunkWork}
-use Rattle.levels.specs.declared.Examined.{Examined}
 use Rattle.levels.specs.Level.{Work, examine, started, chunk}
 use Rattle.levels.specs.Weight.{weight, statsWeight}
-use Rattle.levels.specs.Work.{mapOf, Ready, Kernels, workOf, CanExamine, Examining, startedWork}
+use Rattle.levels.specs.declared.ChunkWork.{ChunkWork}
+use Rattle.levels.specs.Work.{mapOf, Ready, workOf, CanCount, startedWork}
 use Rattle.levels.specs.Buffer.{blocksFrom, children, CanSweep, ChunkWords, Swept}
 use Rattle.levels.proofs.Rule.{fold-rule}
 use Rattle.levels.proofs.Counts.{ended, Counts, counts-kept, next-fits}
-use Rattle.levels.proofs.OneBlock.{kernel-own, block-small}
+use Rattle.levels.proofs.OneBlock.{block-small, can-count}
 use Rattle.levels.proofs.Spans.{span-none, span-cut, span-more}
 
 -- ---- what a chunk has come to
@@ -82,23 +81,16 @@ children-more false bs b = sym (append-nil (concatEach split bs))
 pub middle-on : (g : Grid) (angles : List Float) → Sheet g angles → OnSheet g angles (record { 0 = g .height / 2 })
 middle-on g angles t = record { sheet = t; on = omega (arith, grid-sizes g (t .sizes) .some-rows) }
 
-module _ (g : Grid) (angles : List Float) (km : Float) (best : Held) (w : ChunkWork) (e : w ≡ startedWork g angles km best) where
-  pub start-held : w .held ≡ best
-  unfolding startedWork
-  start-held = ap (λ (x : ChunkWork). x .held) e
+pub start-held : (g : Grid) (km : Float) (best : Held) (w : ChunkWork) → w ≡ startedWork g km best → w .held ≡ best
+unfolding startedWork
+start-held g km best w e = ap (λ (x : ChunkWork). x .held) e
 
-  pub start-own : w ≡ startedWork g angles km (w .held)
-  start-own = e ∙ ap (startedWork g angles km) (sym start-held)
+pub start-own : (g : Grid) (km : Float) (best : Held) (w : ChunkWork) → w ≡ startedWork g km best → w ≡ startedWork g km (w .held)
+start-own g km best w e = e ∙ ap (startedWork g km) (sym (start-held g km best w e))
 
-  start-kernels : Kernels g angles km w
-  unfolding startedWork kernelOf
-  start-kernels =
-      let own = kernel-own g angles (record { 0 = g .height / 2 }) km in
-      subst (Kernels g angles km) (sym e) (record { wide = own; exact = own; plain = refl })
-
-  start-same : (cosines : List Float) (sums : List ℕ) → workOf w [] ≡ started (mapOf g angles cosines sums) km best
-  unfolding startedWork started kernelOf
-  start-same cosines sums = ap (λ (x : ChunkWork). workOf x []) e
+start-same : (m : Map) (km : Float) (best : Held) (w : ChunkWork) → w ≡ startedWork (m .globe .grid) km best → workOf w [] ≡ started m km best
+unfolding startedWork started
+start-same m km best w e = ap (λ (x : ChunkWork). workOf x []) e
 
 -- ---- the loop
 
@@ -114,11 +106,10 @@ module _ (g : Grid) (angles cosines : List Float) (sums : List ℕ) (near : List
     pub to : i ≤ end
     pub size : length far ≡ length far₀
     pub same : workOf w (upTo i .outcome .survivors) ≡ upTo i
-    pub kernels : Kernels g angles km w
     pub written : Written far₀ live (each wordOf (children (upTo i .outcome))) far at
 
   module _ (t : Ready g angles cosines sums) (words : ChunkWords near start end) (can : CanSweep g (blocksFrom start end near) far₀ live) where
-    pub sweep-start : (w : ChunkWork) → w ≡ startedWork g angles km best → Sweeping far₀ w live start
+    pub sweep-start : (w : ChunkWork) → w ≡ startedWork g km best → Sweeping far₀ w live start
     unfolding fold each concatEach started
     sweep-start w e =
         let none-yet = sym (span-none near start) in
@@ -126,8 +117,7 @@ module _ (g : Grid) (angles cosines : List Float) (sums : List ℕ) (near : List
           from = omega arith;
           to = words .order;
           size = refl;
-          same = subst (λ (bs : List Block). workOf w (sofar m km best bs .outcome .survivors) ≡ sofar m km best bs) none-yet (start-same g angles km best w e cosines sums);
-          kernels = start-kernels g angles km best w e;
+          same = subst (λ (bs : List Block). workOf w (sofar m km best bs .outcome .survivors) ≡ sofar m km best bs) none-yet (start-same m km best w e);
           written = subst (λ (bs : List Block). Written far₀ live (each wordOf (children (sofar m km best bs .outcome))) far₀ live) none-yet (written-nothing far₀ live);
         }
 
@@ -153,7 +143,7 @@ module _ (g : Grid) (angles cosines : List Float) (sums : List ℕ) (near : List
         done-all : AllOf (Rectangle g) done
         done-all = all-left done (next ∷ []) all
 
-        next-rectangle : Rectangle g next
+        pub next-rectangle : Rectangle g next
         next-rectangle = only (all-right done all)
           where
             only : {b : Block} → AllOf (Rectangle g) (b ∷ []) → Rectangle g b
@@ -169,16 +159,11 @@ module _ (g : Grid) (angles cosines : List Float) (sums : List ℕ) (near : List
               total-append area done (next ∷ []),
             )
 
-        pub sweep-examines : CanExamine g angles cosines sums km w next
-        sweep-examines =
-            record {
-              ready = t;
-              kernels = s .kernels;
-              rectangle = next-rectangle;
-              light =
-                  let e : w .tally ≡ upTo i .outcome .tally = ap (λ (x : Work). x .outcome .tally) (s .same) in
-                  rw e (omega (arith, sofar-light m km best done-all (omega (arith, areas, can .narrow))));
-            }
+        pub sweep-counts : CanCount w next
+        sweep-counts =
+            let e : w .tally ≡ upTo i .outcome .tally = ap (λ (x : Work). x .outcome .tally) (s .same) in
+            can-count g angles cosines sums t next next-rectangle w
+            (rw e (omega (arith, sofar-light m km best done-all (omega (arith, areas, can .narrow)))))
 
         children-fit : live + length (each wordOf (children (upTo i .outcome))) + length (split next) ≤ length far₀
         children-fit =
@@ -199,40 +184,40 @@ module _ (g : Grid) (angles cosines : List Float) (sums : List ℕ) (near : List
               room = omega (arith, children-fit, s .written .place, s .size);
             }
 
-        module _ (r : Examined) (seen : Examining g angles cosines sums km w next r) (far′ : List ℕ) (at′ : ℕ)
-            (wrote : Written far at (each wordOf (cond (r .survives) (split next) [])) far′ at′) where
+        module _ (w′ : ChunkWork) (survives : Bool)
+            (seen : (bs : List Block) → workOf w′ (cond survives (bs ++ next ∷ []) bs) ≡ examine m km (workOf w bs) next) (far′ : List ℕ) (at′ : ℕ)
+            (wrote : Written far at (each wordOf (cond survives (split next) [])) far′ at′) where
           abbrev kept : List Block
-          kept = cond (r .survives) (upTo i .outcome .survivors ++ next ∷ []) (upTo i .outcome .survivors)
+          kept = cond survives (upTo i .outcome .survivors ++ next ∷ []) (upTo i .outcome .survivors)
 
-          after : workOf (r .work) kept ≡ upTo (i + 1)
+          after : workOf w′ kept ≡ upTo (i + 1)
           after =
-              seen .same (upTo i .outcome .survivors) ∙ ap (λ (x : Work). examine m km x next) (s .same)
+              seen (upTo i .outcome .survivors) ∙ ap (λ (x : Work). examine m km x next) (s .same)
               ∙ sym (ap (sofar m km best) (span-more near start i (s .from) inside) ∙ sofar-more m km best done next)
 
-          survivors : kept ≡ upTo (i + 1) .outcome .survivors
-          survivors = ap (λ (x : Work). x .outcome .survivors) after
+          next-survivors : kept ≡ upTo (i + 1) .outcome .survivors
+          next-survivors = ap (λ (x : Work). x .outcome .survivors) after
 
           few : (b : Bool) → length (each wordOf (cond b (split next) [])) ≤ length (split next)
           unfolding each
           few true = omega (arith, length-each wordOf (split next))
           few false = omega arith
 
-          pub sweep-next : Sweeping far′ (r .work) at′ (i + 1)
+          pub sweep-next : Sweeping far′ w′ at′ (i + 1)
           sweep-next =
               let old = each wordOf (children (upTo i .outcome)) in
-              let new = each wordOf (cond (r .survives) (split next) []) in
+              let new = each wordOf (cond survives (split next) []) in
               let all-words : old ++ new ≡ each wordOf (children (upTo (i + 1) .outcome)) =
-              sym (each-append wordOf (children (upTo i .outcome)) (cond (r .survives) (split next) []))
-              ∙ ap (each wordOf) (sym (children-more (r .survives) (upTo i .outcome .survivors) next) ∙ ap (concatEach split) survivors) in
+              sym (each-append wordOf (children (upTo i .outcome)) (cond survives (split next) []))
+              ∙ ap (each wordOf) (sym (children-more survives (upTo i .outcome .survivors) next) ∙ ap (concatEach split) next-survivors) in
               record {
                 from = omega (arith, s .from);
                 to = omega arith;
-                size = written-size far far′ at at′ new (omega (arith, sweep-room .room, few (r .survives))) wrote ∙ s .size;
-                same = subst (λ (x : List Block). workOf (r .work) x ≡ upTo (i + 1)) survivors after;
-                kernels = seen .kernels;
+                size = written-size far far′ at at′ new (omega (arith, sweep-room .room, few survives)) wrote ∙ s .size;
+                same = subst (λ (x : List Block). workOf w′ x ≡ upTo (i + 1)) next-survivors after;
                 written =
                     subst (λ (x : List ℕ). Written far₀ live x far′ at′) all-words
-                    (written-then far₀ far far′ live at at′ old new (omega (arith, children-fit, few (r .survives))) (s .written) wrote);
+                    (written-then far₀ far far′ live at at′ old new (omega (arith, children-fit, few survives)) (s .written) wrote);
               }
 
       pub sweep-done : end ≤ i → Swept (chunk m km best (blocksFrom start end near)) far₀ live far (record { held = w .held; tally = w .tally; live = at })

@@ -9,7 +9,7 @@ pub use add::plus;
 pub use add::plus_stats;
 use candidates::Held;
 pub use cut::level;
-use kernel::Kernel;
+use grid::Row;
 
 pub struct SearchStats {
     pub levels: u32,
@@ -26,18 +26,13 @@ pub struct Tally {
     pub cells_settled: u64,
 }
 
-// A chunk at work: what it holds, its counts and its two kernels.
+// A chunk at work: what it holds, its counts, the row and radius of the wide kernel before and the row of the exact one.
 pub struct ChunkWork {
     pub held: Held,
     pub tally: Tally,
-    pub wide: Kernel,
-    pub exact: Kernel,
-}
-
-// A chunk's work after a block, and whether the block survives.
-pub struct Examined {
-    pub work: ChunkWork,
-    pub survives: bool,
+    pub wide_row: Row,
+    pub wide_km: f64,
+    pub exact_row: Row,
 }
 
 // What a chunk or a level came to, and the place after the children that it wrote.

@@ -9,11 +9,11 @@ use blocks::Block;
 use candidates::Held;
 use grid::Grid;
 use grid::Row;
+use kernel::circle_population;
 ghost use mathlib.Core.Path.{_≡_};
 ghost use mathlib.Core.Bool.{cond};
 ghost use mathlib.Core.List.{[]};
 ghost use Rattle.lists.specs.Lists.{each};
-ghost use Rattle.kernel.specs.Kernel.{Sheet};
 ghost use Rattle.blocks.specs.Block.{split};
 ghost use Rattle.blocks.specs.Word.{wordOf, Written, CanSplit};
 ghost use Rattle.levels.specs.Level.{chunk};
@@ -21,12 +21,10 @@ ghost use Rattle.levels.specs.Work.{mapOf, Ready, startedWork};
 ghost use Rattle.levels.specs.Buffer.{blocksFrom, CanSweep, ChunkWords, Swept};
 
 // A chunk starts from the best of the level before and from two kernels at the middle row and the plain radius, which count as built.
-fn started(grid: Grid, angles: &[f64], km: f64, best: Held) -> ChunkWork
-    requires { ⌜ Sheet grid (now angles) ⌝ }
-    ensures { λ r. ⌜ r ≡ startedWork grid (now (angles .entry)) km best ⌝ }
+fn started(grid: Grid, km: f64, best: Held) -> ChunkWork
+    ensures { λ r. ⌜ r ≡ startedWork grid km best ⌝ }
 {
     let middle = Row(grid.height / 2);
-    let kernel = kernel::build(grid, angles, middle, km);
     let stats = SearchStats {
         levels: 0,
         blocks_examined: 0,
@@ -42,8 +40,9 @@ fn started(grid: Grid, angles: &[f64], km: f64, best: Held) -> ChunkWork
     ChunkWork {
         held: best,
         tally,
-        wide: kernel,
-        exact: kernel,
+        wide_row: middle,
+        wide_km: km,
+        exact_row: middle,
     }
 }
 
@@ -58,6 +57,16 @@ fn write_children(survives: bool, block: Block, far: &mut [u64], at: usize) -> u
     at
 }
 
+fn result_of(work: ChunkWork, live: usize) -> ChunkResult
+    ensures { λ r. ⌜ r ≡ record { held = work .held; tally = work .tally; live = live } ⌝ }
+{
+    let held = work.held;
+    let tally = work.tally;
+    ChunkResult { held, tally, live }
+}
+
+// Three kernels stay in place from block to block, two wide ones and an exact one, and are built anew only where a block needs another: a
+// wide one where the block has another shape, the exact one where its probe stands on another row.
 pub(crate) fn chunk(
     grid: Grid,
     angles: &[f64],
@@ -76,24 +85,53 @@ pub(crate) fn chunk(
     requires { ⌜ CanSweep grid (blocksFrom start end (now near)) (now far) live ⌝ }
     ensures { λ r. ⌜ Swept (chunk (mapOf grid (now (angles .entry)) (now (cosines .entry)) (now (sums .entry))) km best (blocksFrom start end (now (near .entry)))) (now (far .entry)) live (now (far .exit)) r ⌝ }
 {
-    let mut work = started(grid, angles, km, best);
-    let mut spare = work.wide;
+    let mut exact = kernel::build(grid, angles, Row(grid.height / 2), km);
+    let mut one = exact;
+    let mut one_shape = kept::no_shape();
+    let mut two = exact;
+    let mut two_shape = one_shape;
+    let mut work = started(grid, km, best);
     let mut at = live;
     let mut i = start;
     while i < end {
         let block = blocks::from_word(near[i]);
-        let held = work.wide;
-        let seen = work::examine(grid, angles, cosines, sums, km, work, spare, block);
-        work = seen.work;
-        spare = kept::spare_after(held, spare, work.wide);
-        at = write_children(seen.survives, block, far, at);
+        let p = blocks::probe(block);
+        let mut wide = km;
+        let mut bound: u64 = 0;
+        if kept::odd_columns(block) {
+            if !blocks::same_shape(one_shape, block) {
+                one = bounds::wide_kernel(grid, angles, cosines, km, block);
+                one_shape = block;
+            }
+            wide = one.km;
+            bound = circle_population(grid, sums, one.north, one.end, &one.reach, &one.run, p.col);
+        } else {
+            if !blocks::same_shape(two_shape, block) {
+                two = bounds::wide_kernel(grid, angles, cosines, km, block);
+                two_shape = block;
+            }
+            wide = two.km;
+            bound = circle_population(grid, sums, two.north, two.end, &two.reach, &two.run, p.col);
+        }
+        let survives = work::survives(work, bound);
+        let mut people = bound;
+        if work::asks(survives, wide, km) {
+            if !kept::same_row(exact.row, p.row) {
+                exact = kernel::build(grid, angles, p.row, km);
+            }
+            people = circle_population(
+                grid,
+                sums,
+                exact.north,
+                exact.end,
+                &exact.reach,
+                &exact.run,
+                p.col,
+            );
+        }
+        work = work::examined(work, block, wide, survives, people);
+        at = write_children(survives, block, far, at);
         i += 1;
     }
-    let held = work.held;
-    let tally = work.tally;
-    ChunkResult {
-        held,
-        tally,
-        live: at,
-    }
+    result_of(work, at)
 }

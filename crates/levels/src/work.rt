@@ -1,25 +1,20 @@
 // One block of a chunk: pruned by its bound, or its probe evaluated.
 use crate::ChunkWork;
-use crate::Examined;
 use crate::SearchStats;
 use crate::Tally;
 use crate::kept;
 use blocks::Block;
 use candidates::Candidate;
 use candidates::Held;
-use grid::Col;
-use grid::Grid;
-use kernel::Kernel;
 ghost use mathlib.Core.Path.{_≡_};
-ghost use Prim.Native.Nat.{_+_, _≤_};
-ghost use mathlib.Core.Bool.{not};
-ghost use lib.Dec.{eqb};
+ghost use mathlib.Core.Bool.{cond, not, _&&_};
+ghost use mathlib.Core.List.{[]};
+ghost use lib.Ieee.{eq};
 ghost use Rattle.lists.specs.Counted.{one};
-ghost use Rattle.table.specs.Summed.{tableMap};
-ghost use Rattle.kernel.specs.Circle.{population};
-ghost use Rattle.kernel.specs.Kernel.{kernelPopulation};
-ghost use Rattle.blocks.specs.Block.{isCell, probe};
-ghost use Rattle.levels.specs.Work.{mapOf, OwnKernel, ProbeKernel, CanCount, CanExamine, prunedWork, evaluatedWork, Examining};
+ghost use Rattle.blocks.specs.Block.{isCell};
+ghost use Rattle.candidates.specs.Candidate.{prunes};
+ghost use Rattle.levels.specs.Level.{wideBuilt, exactBuilt};
+ghost use Rattle.levels.specs.Work.{workOf, CanCount, prunedWork, evaluatedWork};
 
 // A single cell that is evaluated is settled.
 fn settled(block: Block) -> u64
@@ -28,73 +23,64 @@ fn settled(block: Block) -> u64
     if blocks::is_cell(block) { 1 } else { 0 }
 }
 
-// The probe's circle: where the wide circle has the plain radius, as that of a single cell has, its people are known.
-fn probe_people(grid: Grid, sums: &[u64], wide: f64, bound: u64, exact: Kernel, col: Col) -> u64
-    requires { ⌜ ProbeKernel grid (now sums) wide bound exact col ⌝ }
-    ensures { λ r. ⌜ r ≡ kernelPopulation (tableMap grid (now (sums .entry))) exact col ⌝ }
+// Whether the block's wide kernel counts as built.
+fn wide_built(work: ChunkWork, block: Block, wide: f64) -> u64
+    ensures { λ r. ⌜ r ≡ wideBuilt (workOf work []) block wide ⌝ }
 {
-    if kept::same_radius(wide, exact.km) {
-        return bound;
-    }
-    kernel::circle_population(grid, sums, exact, col)
+    let row = blocks::probe(block).row;
+    kept::built(kept::same_kernel(work.wide_row, work.wide_km, row, wide))
 }
 
-fn pruned(work: ChunkWork, wide: Kernel, built: u64, block: Block) -> ChunkWork
-    requires { ⌜ CanCount work built block ⌝ }
-    ensures { λ r. ⌜ r ≡ prunedWork work wide built block ⌝ }
+// Whether its exact one does.
+fn exact_built(work: ChunkWork, block: Block) -> u64
+    ensures { λ r. ⌜ r ≡ exactBuilt (workOf work []) block ⌝ }
+{
+    let row = blocks::probe(block).row;
+    kept::built(kept::same_row(work.exact_row, row))
+}
+
+// A pruned block asks for no exact kernel.
+fn pruned(work: ChunkWork, block: Block, wide: f64) -> ChunkWork
+    requires { ⌜ CanCount work block ⌝ }
+    ensures { λ r. ⌜ r ≡ prunedWork work block wide ⌝ }
 {
     let held = work.held;
-    let exact = work.exact;
-    let before = work.tally;
+    let counted = work.tally;
     let stats = SearchStats {
         levels: 0,
         blocks_examined: 1,
         blocks_pruned: 1,
         circles_evaluated: 0,
-        kernels_built: built,
+        kernels_built: wide_built(work, block, wide),
     };
     let area = blocks::area(block);
-    let tally = crate::plus(
-        before,
-        Tally {
-            stats,
-            cells_pruned: area,
-            cells_settled: 0,
-        },
-    );
+    let more = Tally {
+        stats,
+        cells_pruned: area,
+        cells_settled: 0,
+    };
+    let tally = crate::plus(counted, more);
+    let wide_row = blocks::probe(block).row;
+    let exact_row = work.exact_row;
     ChunkWork {
         held,
         tally,
-        wide,
-        exact,
+        wide_row,
+        wide_km: wide,
+        exact_row,
     }
 }
 
-fn evaluated(
-    grid: Grid,
-    angles: &[f64],
-    cosines: &[f64],
-    sums: &[u64],
-    km: f64,
-    work: ChunkWork,
-    wide: Kernel,
-    bound: u64,
-    built: u64,
-    block: Block,
-) -> ChunkWork
-    requires { ⌜ CanExamine grid (now angles) (now cosines) (now sums) km work block ⌝ }
-    requires { ⌜ bound ≡ population (mapOf grid (now angles) (now cosines) (now sums)) (wide .km) (probe block) ⌝ }
-    requires { ⌜ built ≤ 1 ⌝ }
-    ensures { λ r. ⌜ r ≡ evaluatedWork (mapOf grid (now (angles .entry)) (now (cosines .entry)) (now (sums .entry))) km work wide (built + one (not (eqb (work .exact .row .0) (probe block .row .0)))) block ⌝ }
+// Otherwise its probe, with the people of its circle, is the best so far or not.
+fn evaluated(work: ChunkWork, block: Block, wide: f64, population: u64) -> ChunkWork
+    requires { ⌜ CanCount work block ⌝ }
+    ensures { λ r. ⌜ r ≡ evaluatedWork work block wide population ⌝ }
 {
-    let p = blocks::probe(block);
-    let row = p.row;
-    let col = p.col;
-    let old = work.exact;
-    let exact = kept::kept(grid, angles, old, row, km);
-    let more = kept::built(kept::same_row(old.row, row));
-    let population = probe_people(grid, sums, wide.km, bound, exact, col);
     let before = work.held;
+    let counted = work.tally;
+    let probe = blocks::probe(block);
+    let row = probe.row;
+    let col = probe.col;
     let held = candidates::better_held(
         before,
         Held::Best(Candidate {
@@ -103,73 +89,65 @@ fn evaluated(
             population,
         }),
     );
-    let counted = work.tally;
     let stats = SearchStats {
         levels: 0,
         blocks_examined: 1,
         blocks_pruned: 0,
         circles_evaluated: 1,
-        kernels_built: built + more,
+        kernels_built: wide_built(work, block, wide) + exact_built(work, block),
     };
     let cells = settled(block);
-    let tally = crate::plus(
-        counted,
-        Tally {
-            stats,
-            cells_pruned: 0,
-            cells_settled: cells,
-        },
-    );
+    let more = Tally {
+        stats,
+        cells_pruned: 0,
+        cells_settled: cells,
+    };
+    let tally = crate::plus(counted, more);
     ChunkWork {
         held,
         tally,
-        wide,
-        exact,
+        wide_row: row,
+        wide_km: wide,
+        exact_row: row,
     }
 }
 
-pub(crate) fn examine(
-    grid: Grid,
-    angles: &[f64],
-    cosines: &[f64],
-    sums: &[u64],
-    km: f64,
+// A chunk after a block of this wide radius: a survivor's probe has these people.
+pub(crate) fn examined(
     work: ChunkWork,
-    spare: Kernel,
     block: Block,
-) -> Examined
-    requires { ⌜ CanExamine grid (now angles) (now cosines) (now sums) km work block ⌝ }
-    requires { ⌜ OwnKernel grid (now angles) spare ⌝ }
-    ensures { λ r. ⌜ Examining grid (now (angles .entry)) (now (cosines .entry)) (now (sums .entry)) km work block r ⌝ }
+    wide: f64,
+    survives: bool,
+    people: u64,
+) -> ChunkWork
+    requires { ⌜ CanCount work block ⌝ }
+    ensures { λ r. ⌜ r ≡ cond survives (evaluatedWork work block wide people) (prunedWork work block wide) ⌝ }
 {
-    let p = blocks::probe(block);
-    let radius = bounds::wide_km(grid, cosines, km, block);
-    let old = work.wide;
-    let wide = kept::kept_of_two(grid, angles, old, spare, p.row, radius);
-    let built = kept::built(kept::same_kernel(old.row, old.km, p.row, radius));
-    let bound = kernel::circle_population(grid, sums, wide, p.col);
+    if survives {
+        return evaluated(work, block, wide, people);
+    }
+    pruned(work, block, wide)
+}
+
+// A block survives where its bound does not prune it.
+pub(crate) fn survives(work: ChunkWork, bound: u64) -> bool
+    ensures { λ r. ⌜ r ≡ not (prunes bound (work .held)) ⌝ }
+{
     let held = work.held;
     if candidates::prunes(bound, held) {
-        let next = pruned(work, wide, built, block);
-        return Examined {
-            work: next,
-            survives: false,
-        };
+        false
+    } else {
+        true
     }
-    let next = evaluated(
-        grid,
-        angles,
-        cosines,
-        sums,
-        km,
-        work,
-        wide,
-        bound,
-        built,
-        block,
-    );
-    Examined {
-        work: next,
-        survives: true,
+}
+
+// A survivor asks for the people of its probe's circle, but where the wide circle has the plain radius, as that of a single cell has.
+pub(crate) fn asks(survives: bool, wide: f64, km: f64) -> bool
+    ensures { λ r. ⌜ r ≡ (survives && not (eq wide km)) ⌝ }
+{
+    if survives {
+        !kept::same_radius(wide, km)
+    } else {
+        false
     }
 }

@@ -1,20 +1,16 @@
 -- The columns of a row around the ring, for every width: a span, and the columns within a distance of one, with the sums over them.
 use Prim.Native.Nat.{ℕ, _+_, _-_, _/_, _≤_, _<_}
-use mathlib.Core.Path.{_≡_, ap, _∙_}
-use mathlib.Core.Bool.{Bool, cond, _&&_, _||_}
+use mathlib.Core.Path.{_≡_, sym, _∙_}
+use mathlib.Core.Bool.{cond, _&&_, _||_}
 use native.Mathlib.Omega.{arith}
-use native.Mathlib.Decide.{decLe, decLt}
-use lib.Dec.{leb, ltb, leb→le, le→leb}
-use lib.Ieee.Fits.{and-i, and-l, and-r}
-use borrow.Author.Tests.{ltb-true, leb-false, le-leb, lt-leb, lt-ltb, le-ltb}
+use lib.Dec.{leb}
+use borrow.Author.Tests.{le-leb, lt-leb}
 use Rattle.lists.specs.Counted.{sumBelow}
-use Rattle.lists.proofs.Bools.{same-test, cond-case}
-use Rattle.lists.proofs.Sums.{sum-ext, sumFrom, one-piece, two-pieces}
+use Rattle.lists.proofs.Sums.{sum-ext, sumFrom, seg-all, one-piece, two-pieces}
 use Rattle.grid.specs.Grid.{columnDistance}
 use Rattle.grid.proofs.Distance.{distance-half}
 use Rattle.table.specs.declared.ColSpan.{ColSpan}
 use Rattle.table.specs.Table.{inSpan}
-use Rattle.table.specs.Summed.{spanAround}
 
 -- ---- a span, in one piece or in two at the seam
 
@@ -51,85 +47,45 @@ module _ (s : ColSpan) where
 
 -- ---- the columns within h of a column
 
-abbrev pub span : ℕ → ℕ → ColSpan
-span a b = record { west = record { 0 = a }; east = record { 0 = b } }
-
 -- the terms of a sum whose columns are within h of a column
 unfoldable pub within : ℕ → ℕ → ℕ → (ℕ → ℕ) → ℕ → ℕ
 within w c h f k = cond (leb (columnDistance w c k) h) (f k) 0
 
--- a test that passes just where a column is in a range, and just where it is outside the gap of two
-between : (d h a b k : ℕ) → (d ≤ h → a ≤ k) → (d ≤ h → k ≤ b) → (a ≤ k → k ≤ b → d ≤ h) → leb d h ≡ (leb a k && leb k b)
-between d h a b k west east in-range =
-    same-test (leb d h) (leb a k && leb k b)
-    (λ t. let l = leb→le d h t in and-i (leb a k) (leb k b) (le→leb a k (west l)) (le→leb k b (east l)))
-    (λ t. le→leb d h (in-range (leb→le a k (and-l (leb a k) (leb k b) t)) (leb→le k b (and-r (leb a k) (leb k b) t))))
+module _ (w c h : ℕ) (f : ℕ → ℕ) where
+  near : (k : ℕ) → columnDistance w c k ≤ h → within w c h f k ≡ f k
+  unfolding within
+  near k d = rw (le-leb (columnDistance w c k) h d)
 
-outside : (d h a b k : ℕ) → (a ≤ k → d ≤ h) → (k ≤ b → d ≤ h) → (b < k → k < a → h < d) → leb d h ≡ (leb a k || leb k b)
-outside d h a b k west east gap = elim (decLe a k) [
-  | yes p ↦ rw (le-leb a k p) (le-leb d h (west p))
-  | no p ↦ elim (decLe k b) [
-    | yes q ↦ rw (lt-leb a k (omega arith), le-leb k b q) (le-leb d h (east q))
-    | no q ↦ rw (lt-leb a k (omega arith), lt-leb k b (omega arith)) (lt-leb d h (gap (omega arith) (omega arith)))
-  ]
-]
+  far : (k : ℕ) → h < columnDistance w c k → within w c h f k ≡ 0
+  unfolding within
+  far k d = rw (lt-leb (columnDistance w c k) h d)
 
-module _ (w c h : ℕ) (on : c < w) where
-  pub around-west : h ≤ w → spanAround w c h .west .0 < w
-  unfolding spanAround
-  around-west l = cond-case (λ (n : ℕ). n < w) (leb h c) (c - h) (c + w - h) (λ e. omega arith) (λ e. omega (arith, leb-false h c e))
+  -- half the width and more is the full turn: every column, each once, the one opposite on an even ring included
+  pub within-turn : w / 2 ≤ h → sumBelow w (within w c h f) ≡ sumFrom 0 w f
+  within-turn l = sum-ext w (within w c h f) f (λ k q. near k (omega (arith, distance-half w c k))) ∙ sym (seg-all w f)
 
-  pub around-east : h ≤ w → spanAround w c h .east .0 < w
-  unfolding spanAround
-  around-east l = cond-case (λ (n : ℕ). n < w) (ltb (c + h) w) (c + h) (c + h - w) (λ e. ltb-true (c + h) w e) (λ e. omega arith)
-
-  -- that span does not meet the seam, or goes across it to the west or to the east
-  pub around-inland : h ≤ c → c + h < w → spanAround w c h ≡ span (c - h) (c + h)
-  unfolding spanAround
-  around-inland p q = rw (le-leb h c p, lt-ltb (c + h) w q)
-
-  pub around-seam-west : c < h → c + h < w → spanAround w c h ≡ span (c + w - h) (c + h)
-  unfolding spanAround
-  around-seam-west p q = rw (lt-leb h c p, lt-ltb (c + h) w q)
-
-  pub around-seam-east : h ≤ c → w ≤ c + h → spanAround w c h ≡ span (c - h) (c + h - w)
-  unfolding spanAround
-  around-seam-east p q = rw (le-leb h c p, le-ltb (c + h) w q)
-
-  module _ (apart : h + h < w) where
-    -- where the columns from c − h to c + h are 2 h + 1 different ones, they are those at distance h and less
-    pub around-is : (k : ℕ) → k < w → leb (columnDistance w c k) h ≡ inSpan (spanAround w c h) k
+  -- where the columns from c − h to c + h are 2 h + 1 different ones: the pieces of those that do not meet the seam, or go across it
+  module _ (on : c < w) (apart : h + h < w) where
+    pub within-inland : h ≤ c → c + h < w → sumBelow w (within w c h f) ≡ sumFrom (c - h) (c + h + 1) f
     unfolding columnDistance
-    around-is k q = elim (decLe h c) [
-      | yes p ↦ elim (decLt (c + h) w) [
-        | yes r ↦
-            rw (around-inland p r, span-plain (span (c - h) (c + h)) k (omega arith))
-            (between (columnDistance w c k) h (c - h) (c + h) k (omega arith) (omega arith) (omega arith))
-        | no r ↦
-            rw (around-seam-east p (omega arith), span-seam (span (c - h) (c + h - w)) k (omega arith))
-            (outside (columnDistance w c k) h (c - h) (c + h - w) k (omega arith) (omega arith) (omega arith))
-      ]
-      | no p ↦
-          rw (around-seam-west (omega arith) (omega arith), span-seam (span (c + w - h) (c + h)) k (omega arith))
-          (outside (columnDistance w c k) h (c + w - h) (c + h) k (omega arith) (omega arith) (omega arith))
-    ]
+    within-inland p q =
+        one-piece f (within w c h f) (c - h) (c + h + 1) w (omega arith) (omega arith)
+        (λ k a. far k (omega arith))
+        (λ k a b. near k (omega arith))
+        (λ k a b. far k (omega arith))
 
-    module _ (f : ℕ → ℕ) where
-      -- so a row's sum over them is the sum over that span, in its pieces
-      pub within-span : sumBelow w (within w c h f) ≡ sumBelow w (spanned (spanAround w c h) f)
-      unfolding within spanned
-      within-span = sum-ext w (within w c h f) (spanned (spanAround w c h) f) (λ k q. ap (λ (t : Bool). cond t (f k) 0) (around-is k q))
+    pub within-west : c < h → sumBelow w (within w c h f) ≡ sumFrom (c + w - h) w f + sumFrom 0 (c + h + 1) f
+    unfolding columnDistance
+    within-west p =
+        two-pieces f (within w c h f) (c + h + 1) (c + w - h) w (omega arith) (omega arith)
+        (λ k a. near k (omega arith))
+        (λ k a b. far k (omega arith))
+        (λ k a b. near k (omega arith))
 
-      pub within-inland : h ≤ c → c + h < w → sumBelow w (within w c h f) ≡ sumFrom (c - h) (c + h + 1) f
-      within-inland p q = within-span ∙ rw (around-inland p q) (span-one-piece (span (c - h) (c + h)) w f (omega arith) q)
-
-      pub within-west : c < h → sumBelow w (within w c h f) ≡ sumFrom (c + w - h) w f + sumFrom 0 (c + h + 1) f
-      within-west p = within-span ∙ rw (around-seam-west p (omega arith)) (span-two-pieces (span (c + w - h) (c + h)) w f (omega arith) (omega arith))
-
-      pub within-east : h ≤ c → w ≤ c + h → sumBelow w (within w c h f) ≡ sumFrom (c - h) w f + sumFrom 0 (c + h - w + 1) f
-      within-east p q = within-span ∙ rw (around-seam-east p q) (span-two-pieces (span (c - h) (c + h - w)) w f (omega arith) (omega arith))
-
--- half the width and more is the full turn: every column, each once, the one opposite on an even ring included
-pub within-turn : (w c h : ℕ) (f : ℕ → ℕ) → w / 2 ≤ h → sumBelow w (within w c h f) ≡ sumBelow w f
-unfolding within
-within-turn w c h f l = sum-ext w (within w c h f) f (λ k q. rw (le-leb (columnDistance w c k) h (omega (arith, distance-half w c k))))
+    pub within-east : h ≤ c → w < c + h + 1 → sumBelow w (within w c h f) ≡ sumFrom (c - h) w f + sumFrom 0 (c + h + 1 - w) f
+    unfolding columnDistance
+    within-east p q =
+        two-pieces f (within w c h f) (c + h + 1 - w) (c - h) w (omega arith) (omega arith)
+        (λ k a. near k (omega arith))
+        (λ k a b. far k (omega arith))
+        (λ k a b. near k (omega arith))

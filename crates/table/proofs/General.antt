@@ -2,22 +2,14 @@
 use mathlib.Core.Path.{_≡_, refl, ap}
 use mathlib.Core.List.{List, _++_}
 use Prim.Native.Nat.{ℕ, zero, suc, _+_, _-_, _<_}
-use native.Mathlib.Nat.{le-refl, le-step, add-zero}
-use native.Mathlib.Omega.{arith}
+use native.Mathlib.Nat.{le-refl, le-step}
 use lib.ListN.{drop}
 use Rattle.lists.specs.Front.{tabulate, over}
-use Rattle.lists.proofs.Sums.{sum-suc, sum-none, sum-both, sumFrom}
+use Rattle.lists.proofs.Sums.{sum-both, sumFrom}
 
 pub seg-both : (a b : ℕ) (f g : ℕ → ℕ) → sumFrom a b (λ i. f i + g i) ≡ sumFrom a b f + sumFrom a b g
 unfolding sumFrom
 seg-both a b f g = sum-both (b - a) (λ i. f (a + i)) (λ i. g (a + i))
-
--- a range of one
-pub seg-one : (a : ℕ) (f : ℕ → ℕ) → sumFrom a (a + 1) f ≡ f a
-unfolding sumFrom
-seg-one a f =
-    let e : a + 1 - a ≡ suc 0 = omega arith in
-    rw (e, sum-suc 0 (λ i. f (a + i)), sum-none (λ i. f (a + i)), add-zero a) (omega arith)
 
 module _ {A : Type 0} where
   tabulate-ext : (f g : ℕ → A) (n : ℕ) → ((i : ℕ) → i < n → f i ≡ g i) → tabulate f n ≡ tabulate g n

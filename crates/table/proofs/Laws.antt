@@ -1,4 +1,4 @@
--- Corners of a map's prefix sums, for every size: rows and columns more, the words, ranges by differences, and bounds.
+-- Corners of a map's prefix sums, for every size: rows and columns more, the words, rectangles by differences, and bounds.
 use mathlib.Core.Path.{_≡_, refl, sym, ap₂, _∙_}
 use mathlib.Core.List.{List}
 use Prim.Native.Nat.{ℕ, suc, _+_, _*_, _-_, _/_, _%_, _≤_, _<_, _^_, suc-le-suc}
@@ -9,12 +9,13 @@ use lib.Arith.{digits-div, digits-mod, digits-lt}
 use lib.ListN.{length, getD, set}
 use Rattle.lists.specs.Counted.{sumBelow}
 use Rattle.lists.specs.Front.{over}
-use Rattle.lists.proofs.Sums.{sum-none, sum-plus-one, sum-zeros, sum-le, sum-bound, sum-grows, sumFrom, sum-seg, seg-same, times-le}
+use Rattle.lists.proofs.Sums.{sum-none, sum-plus-one, sum-zeros, sum-le, sum-bound, sum-grows, sumFrom, sum-seg, seg-all, seg-same, times-le}
 use Rattle.lists.proofs.Fronts.{over-at, over-step}
 use Rattle.grid.specs.Grid.{cell}
 use Rattle.grid.specs.Map.{Map, count}
 use Rattle.table.proofs.General.{seg-both}
-use Rattle.table.specs.Table.{corner, sumsWords, sumsWord, filledSums, total}
+use Rattle.table.specs.declared.Rows.{Rows}
+use Rattle.table.specs.Table.{corner, sumsWords, sumsWord, filledSums, total, rectangle}
 
 -- the people of row r at column k
 abbrev pub people : Map → ℕ → ℕ → ℕ
@@ -43,11 +44,30 @@ next-row w row = rw (add-one row, suc-mul row (w + 1))
 pub all-rows : (w h : ℕ) → (h + 1) * (w + 1) ≡ w + 1 + h * (w + 1)
 all-rows w h = rw (add-one h, suc-mul h (w + 1)) (add-comm (h * (w + 1)) (w + 1))
 
--- ---- corners
+-- ---- rectangles
 
--- the people of the rows from north to above south and the columns from first to before last
-unfoldable pub rectangle : Map → ℕ → ℕ → ℕ → ℕ → ℕ
-rectangle m north south first last = sumFrom north south (λ r. sumFrom first last (people m r))
+module _ (m : Map) (rows : Rows) where
+  -- a sum over the rows of each row's people in one piece of the columns, and in two
+  pub one-rectangle : (g : ℕ → ℕ) (f l : ℕ) → ((r : ℕ) → g r ≡ sumFrom f l (people m r)) → sumFrom (rows .north) (rows .end) g ≡ rectangle m rows f l
+  unfolding rectangle sumFrom
+  one-rectangle g f l h = seg-same (rows .north) (rows .end) g (λ r. sumFrom f l (people m r)) (λ r a b. h r)
+
+  pub two-rectangles : (g : ℕ → ℕ) (f l f' l' : ℕ) → ((r : ℕ) → g r ≡ sumFrom f l (people m r) + sumFrom f' l' (people m r))
+      → sumFrom (rows .north) (rows .end) g ≡ rectangle m rows f l + rectangle m rows f' l'
+  unfolding rectangle sumFrom
+  two-rectangles g f l f' l' h =
+      let one : ℕ → ℕ = λ r. sumFrom f l (people m r) in
+      let two : ℕ → ℕ = λ r. sumFrom f' l' (people m r) in
+      seg-same (rows .north) (rows .end) g (λ r. one r + two r) (λ r a b. h r) ∙ seg-both (rows .north) (rows .end) one two
+
+  -- cut at a column
+  pub rectangle-cut : (c l : ℕ) → c ≤ l → rectangle m rows 0 l ≡ rectangle m rows 0 c + rectangle m rows c l
+  rectangle-cut c l h =
+      let g : ℕ → ℕ = λ r. sumFrom 0 l (people m r) in
+      sym (one-rectangle g 0 l (λ r. refl))
+      ∙ two-rectangles g 0 c c l (λ r. omega (arith, seg-all l (people m r), seg-all c (people m r), sum-seg c l (people m r) h))
+
+-- ---- corners
 
 -- a word of the sums of counts in rows of w
 unfoldable pub wordOf : ℕ → List ℕ → ℕ → ℕ
@@ -70,22 +90,16 @@ module _ (m : Map) where
   pub corner-cell : (r c : ℕ) → corner m (r + 1) (c + 1) + corner m r c ≡ corner m r (c + 1) + corner m (r + 1) c + people m r c
   corner-cell r c = omega (arith, corner-south r (c + 1), corner-south r c, sum-plus-one c (people m r))
 
-  -- the rows from n to below s, west of a column: two corners
-  pub corner-rows : (n s c : ℕ) → n ≤ s → corner m s c ≡ corner m n c + sumFrom n s (λ r. sumBelow c (people m r))
+  -- rows west of a column: two corners
+  pub corner-rows : (rows : Rows) (c : ℕ) → rows .north ≤ rows .end → corner m (rows .end) c ≡ corner m (rows .north) c + rectangle m rows 0 c
   unfolding corner
-  corner-rows n s c h = sum-seg n s (λ r. sumBelow c (people m r)) h
-
-  -- four corners make a rectangle
-  pub four-corners : (n s f l : ℕ) → n ≤ s → f ≤ l → corner m s l + corner m n f ≡ corner m n l + corner m s f + rectangle m n s f l
-  unfolding rectangle
-  four-corners n s f l p q =
-      let each = seg-same n s (λ r. sumBelow l (people m r)) (λ r. sumBelow f (people m r) + sumFrom f l (people m r)) (λ r a b. sum-seg f l (people m r) q) in
-      let both = seg-both n s (λ r. sumBelow f (people m r)) (λ r. sumFrom f l (people m r)) in
-      omega (arith, corner-rows n s l p, corner-rows n s f p)
+  corner-rows rows c h =
+      let f : ℕ → ℕ = λ r. sumBelow c (people m r) in
+      omega (arith, sum-seg (rows .north) (rows .end) f h, one-rectangle m rows f 0 c (λ r. sym (seg-all c (people m r))))
 
   -- corners grow southward and eastward
   pub corner-grows-south : (n s c : ℕ) → n ≤ s → corner m n c ≤ corner m s c
-  corner-grows-south n s c h = omega (arith, corner-rows n s c h)
+  corner-grows-south n s c h = omega (arith, corner-rows (record { north = n; end = s }) c h)
 
   pub corner-grows-east : (r f l : ℕ) → f ≤ l → corner m r f ≤ corner m r l
   unfolding corner
@@ -94,6 +108,10 @@ module _ (m : Map) where
   pub corner-total : (r c : ℕ) → r ≤ heightOf m → c ≤ widthOf m → corner m r c ≤ total m
   unfolding total
   corner-total r c p q = le-trans (corner-grows-south r (heightOf m) c p) (corner-grows-east (heightOf m) c (widthOf m) q)
+
+  -- a rectangle has at most all people
+  pub rectangle-total : (rows : Rows) (f l : ℕ) → rows .north ≤ rows .end → rows .end ≤ heightOf m → f ≤ l → l ≤ widthOf m → rectangle m rows f l ≤ total m
+  rectangle-total rows f l n e p q = omega (arith, rectangle-cut m rows f l p, corner-rows rows l n, corner-total (rows .end) l e q)
 
   -- ---- every count below 2 ^ 32
 

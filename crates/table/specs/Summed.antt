@@ -1,10 +1,10 @@
--- What a table's functions are told of their arguments, the map of a table, and the people of a row's columns around a centre.
+-- What a table's functions are told of their arguments, the map of a table, and the people of a band's columns around a centre.
 use Prim.Native.Nat.{ℕ, _+_, _*_, _-_, _/_, _%_, _≤_, _<_, _^_}
 use mathlib.Core.Path.{_≡_}
 use mathlib.Core.Bool.{cond}
 use mathlib.Core.List.{List, []}
 use lib.ListN.{length, getD}
-use lib.Dec.{leb, ltb}
+use lib.Dec.{leb}
 use Rattle.lists.specs.Counted.{sumBelow}
 use Rattle.lists.specs.Front.{tabulate, over}
 use Rattle.grid.specs.declared.Grid.{Grid}
@@ -14,7 +14,7 @@ use Rattle.grid.specs.Grid.{cell, cells, columnDistance}
 use Rattle.grid.specs.Map.{Globe, Map, count}
 use Rattle.table.specs.declared.RowBand.{RowBand}
 use Rattle.table.specs.declared.ColSpan.{ColSpan}
-use Rattle.table.specs.Table.{sumsWords, sumsWord, filledSums, total}
+use Rattle.table.specs.Table.{sumsWords, sumsWord, filledSums, total, inBand}
 
 -- ---- filling
 
@@ -79,17 +79,10 @@ pub record OnTable (g : Grid) (band : RowBand) (span : ColSpan) : Type 0 where
   pub west : span .west .0 < g .width
   pub east : span .east .0 < g .width
 
-pub record InTable (g : Grid) (r : Row) (c : Col) : Type 0 where
-  pub row : r .0 < g .height
+pub record InTable (g : Grid) (band : RowBand) (c : Col) : Type 0 where
+  pub ordered : band .north .0 ≤ band .south .0
+  pub south : band .south .0 < g .height
   pub col : c .0 < g .width
-
--- from half columns west of a column to half columns east of it, around a ring of that width
-unfoldable pub spanAround : ℕ → ℕ → ℕ → ColSpan
-spanAround width col half =
-    record {
-      west = record { 0 = cond (leb half col) (col - half) (col + width - half) };
-      east = record { 0 = cond (ltb (col + half) width) (col + half) (col + half - width) };
-    }
 
 -- the people of a row's columns at a distance of at most half from a centre column, around the ring
 unfoldable pub rowSpan : Map → Row → Col → ℕ → ℕ
@@ -97,7 +90,11 @@ rowSpan m row centre half =
     let width = m .globe .grid .width in
     sumBelow width (λ k. cond (leb (columnDistance width (centre .0) k) half) (count m (cell (row .0) k)) 0)
 
+-- the same of the rows of a band
+unfoldable pub bandSpan : Map → RowBand → Col → ℕ → ℕ
+bandSpan m band centre half = sumBelow (m .globe .grid .height) (λ r. cond (inBand band r) (rowSpan m (record { 0 = r }) centre half) 0)
+
 -- opens all of the above, for facts that are computed
 unfoldable pub summed : Unit {0}
-unfolding wordAt countAt countsOf spanAround rowSpan
+unfolding wordAt countAt countsOf rowSpan bandSpan
 summed = tt

@@ -1,5 +1,5 @@
 -- The table: prefix sums of the counts in a lent buffer, and the people of a rectangle.
-use Prim.Native.Nat.{ℕ, _+_, _*_, _/_, _%_}
+use Prim.Native.Nat.{ℕ, _+_, _*_, _-_, _/_, _%_}
 use mathlib.Core.Bool.{Bool, cond, _&&_, _||_}
 use mathlib.Core.List.{List}
 use lib.ListN.{length}
@@ -10,6 +10,7 @@ use Rattle.grid.specs.declared.Grid.{Grid}
 use Rattle.grid.specs.Grid.{cell}
 use Rattle.grid.specs.Map.{Map, count}
 use Rattle.table.specs.declared.RowBand.{RowBand}
+use Rattle.table.specs.declared.Rows.{Rows}
 use Rattle.table.specs.declared.ColSpan.{ColSpan}
 
 -- the people of the cells above a row and west of a column
@@ -36,6 +37,10 @@ sumsFit g sums = leb (sumsWords g) (length sums)
 unfoldable pub total : Map → ℕ
 total m = corner m (m .globe .grid .height) (m .globe .grid .width)
 
+-- the people of some rows and the columns from west to before end
+unfoldable pub rectangle : Map → Rows → ℕ → ℕ → ℕ
+rectangle m rows west end = sumBelow (rows .end - rows .north) (λ i. sumBelow (end - west) (λ k. count m (cell (rows .north + i) (west + k))))
+
 unfoldable pub inBand : RowBand → ℕ → Bool
 inBand b row = leb (b .north .0) row && leb row (b .south .0)
 
@@ -51,5 +56,5 @@ bandPopulation m b s =
 
 -- opens all of the above, for facts that are computed
 unfoldable pub tables : Unit {0}
-unfolding corner sumsWords sumsWord filledSums sumsFit total inBand inSpan bandPopulation
+unfolding corner sumsWords sumsWord filledSums sumsFit total rectangle inBand inSpan bandPopulation
 tables = tt

@@ -1,12 +1,12 @@
 // The table: prefix sums of the counts in a lent buffer, and the people of bands of rows and spans of columns by four words or six.
 ghost use mathlib.Core.Path.{_≡_};
-ghost use Prim.Native.Nat.{_+_, _*_, _-_, _/_, _<_, _≤_};
+ghost use Prim.Native.Nat.{_+_, _*_, _≤_};
 ghost use lib.Dec.{leb};
 ghost use lib.ListN.{length};
 ghost use Rattle.lists.specs.Front.{over};
 ghost use Rattle.grid.specs.Grid.{closing};
-ghost use Rattle.table.specs.Table.{corner as cornerOf, sumsWord, sumsFit, filledSums, total as totalOf, bandPopulation};
-ghost use Rattle.table.specs.Summed.{countsMap, tableMap, Fillable, RowReady, Summed, AtCorner, OnTable, InTable, spanAround, rowSpan};
+ghost use Rattle.table.specs.Table.{corner as cornerOf, sumsWord, sumsFit, filledSums, total as totalOf, rectangle, bandPopulation};
+ghost use Rattle.table.specs.Summed.{countsMap, tableMap, Fillable, RowReady, Summed, AtCorner, OnTable, InTable, bandSpan};
 use grid::Col;
 use grid::Grid;
 use grid::Row;
@@ -15,6 +15,12 @@ use grid::Row;
 pub struct RowBand {
     pub north: Row,
     pub south: Row,
+}
+
+// The rows from north to before end, by which corners are read.
+struct Rows {
+    north: u32,
+    end: u32,
 }
 
 // The columns from west eastward to east, both included; across the seam where west is the greater.
@@ -105,57 +111,51 @@ pub fn total(grid: Grid, sums: &[u64]) -> u64
     corner(grid, sums, grid.height, grid.width)
 }
 
-// The people of the rows from north to above south, west of a column.
-fn strip(grid: Grid, sums: &[u64], north: u32, south: u32, col: u32) -> u64
+// The people of some rows west of a column: two words.
+fn strip(grid: Grid, sums: &[u64], rows: Rows, col: u32) -> u64
     requires { ⌜ Summed grid (now sums) ⌝ }
-    requires { ⌜ (north ≤ south) × (south ≤ grid .height) × (col ≤ grid .width) ⌝ }
-    ensures { λ r. ⌜ r ≡ cornerOf (tableMap grid (now (sums .entry))) south col - cornerOf (tableMap grid (now (sums .entry))) north col ⌝ }
+    requires { ⌜ (rows .north ≤ rows .end) × (rows .end ≤ grid .height) × (col ≤ grid .width) ⌝ }
+    ensures { λ r. ⌜ r ≡ rectangle (tableMap grid (now (sums .entry))) rows 0 col ⌝ }
 {
-    let below = corner(grid, sums, south, col);
-    let above = corner(grid, sums, north, col);
+    let below = corner(grid, sums, rows.end, col);
+    let above = corner(grid, sums, rows.north, col);
     below - above
 }
 
-// The people of a band of rows and a span of columns: four words, or six where the span is two pieces at the seam.
+// The people of some rows from a column to before another: four words.
+fn inland(grid: Grid, sums: &[u64], rows: Rows, west: u32, end: u32) -> u64
+    requires { ⌜ Summed grid (now sums) ⌝ }
+    requires { ⌜ (rows .north ≤ rows .end) × (rows .end ≤ grid .height) × (west ≤ end) × (end ≤ grid .width) ⌝ }
+    ensures { λ r. ⌜ r ≡ rectangle (tableMap grid (now (sums .entry))) rows west end ⌝ }
+{
+    strip(grid, sums, rows, end) - strip(grid, sums, rows, west)
+}
+
+// The same where the seam lies between, in two pieces: six words.
+fn across(grid: Grid, sums: &[u64], rows: Rows, west: u32, end: u32) -> u64
+    requires { ⌜ Summed grid (now sums) ⌝ }
+    requires { ⌜ (rows .north ≤ rows .end) × (rows .end ≤ grid .height) × (west ≤ grid .width) × (end ≤ grid .width) ⌝ }
+    ensures { λ r. let m = tableMap grid (now (sums .entry)) in ⌜ r ≡ rectangle m rows west (grid .width) + rectangle m rows 0 end ⌝ }
+{
+    inland(grid, sums, rows, west, grid.width) + strip(grid, sums, rows, end)
+}
+
+// The people of a band of rows and a span of columns.
 pub fn population(grid: Grid, sums: &[u64], band: RowBand, span: ColSpan) -> u64
     requires { ⌜ Summed grid (now sums) ⌝ }
     requires { ⌜ OnTable grid band span ⌝ }
     ensures { λ r. ⌜ r ≡ bandPopulation (tableMap grid (now (sums .entry))) band span ⌝ }
 {
-    let north = band.north.0;
-    let south = band.south.0 + 1;
-    let west = strip(grid, sums, north, south, span.west.0);
-    let east = strip(grid, sums, north, south, span.east.0 + 1);
-    if span.west.0 <= span.east.0 {
-        return east - west;
+    let rows = Rows {
+        north: band.north.0,
+        end: band.south.0 + 1,
+    };
+    let west = span.west.0;
+    let end = span.east.0 + 1;
+    if west < end {
+        return inland(grid, sums, rows, west, end);
     }
-    let all = strip(grid, sums, north, south, grid.width);
-    east + (all - west)
-}
-
-// The west end of the columns at most `half` from a column around the ring.
-fn west_of(grid: Grid, centre: Col, half: u32) -> Col
-    requires { ⌜ (grid .width ≤ 180) × (centre .0 < grid .width) × (half < grid .width / 2) ⌝ }
-    ensures { λ r. ⌜ r ≡ spanAround (grid .width) (centre .0) half .west ⌝ }
-{
-    if half <= centre.0 {
-        Col(centre.0 - half)
-    } else {
-        Col(centre.0 + grid.width - half)
-    }
-}
-
-// Their east end.
-fn east_of(grid: Grid, centre: Col, half: u32) -> Col
-    requires { ⌜ (grid .width ≤ 180) × (centre .0 < grid .width) × (half < grid .width / 2) ⌝ }
-    ensures { λ r. ⌜ r ≡ spanAround (grid .width) (centre .0) half .east ⌝ }
-{
-    let end = centre.0 + half;
-    if end < grid.width {
-        Col(end)
-    } else {
-        Col(end - grid.width)
-    }
+    across(grid, sums, rows, west, end)
 }
 
 // Half the width and more: every column.
@@ -165,21 +165,28 @@ fn full_turn(grid: Grid, half: u32) -> bool
     grid.width / 2 <= half
 }
 
-// The people of a row's columns at most `half` from the centre column around the ring. The full turn is counted once.
-pub fn row_span(grid: Grid, sums: &[u64], row: Row, centre: Col, half: u32) -> u64
+// The people of a band's columns at most `half` from the centre column around the ring. The full turn is counted once.
+// Each case reads its own words: ends chosen first would be tested for the seam again.
+pub fn band_span(grid: Grid, sums: &[u64], band: RowBand, centre: Col, half: u32) -> u64
     requires { ⌜ Summed grid (now sums) ⌝ }
-    requires { ⌜ InTable grid row centre ⌝ }
-    ensures { λ r. ⌜ r ≡ rowSpan (tableMap grid (now (sums .entry))) row centre half ⌝ }
+    requires { ⌜ InTable grid band centre ⌝ }
+    ensures { λ r. ⌜ r ≡ bandSpan (tableMap grid (now (sums .entry))) band centre half ⌝ }
 {
-    if full_turn(grid, half) {
-        return strip(grid, sums, row.0, row.0 + 1, grid.width);
-    }
-    let west = west_of(grid, centre, half);
-    let east = east_of(grid, centre, half);
-    let band = RowBand {
-        north: row,
-        south: row,
+    let rows = Rows {
+        north: band.north.0,
+        end: band.south.0 + 1,
     };
-    let span = ColSpan { west, east };
-    population(grid, sums, band, span)
+    let width = grid.width;
+    if full_turn(grid, half) {
+        return strip(grid, sums, rows, width);
+    }
+    let end = centre.0 + half + 1;
+    if centre.0 < half {
+        return across(grid, sums, rows, centre.0 + width - half, end);
+    }
+    let west = centre.0 - half;
+    if width < end {
+        return across(grid, sums, rows, west, end - width);
+    }
+    inland(grid, sums, rows, west, end)
 }

@@ -1,10 +1,10 @@
--- `kernel::band::build`: the empty kernel at radius 0, and otherwise what the two walks leave.
-use mathlib.Core.Path.{_∙_}
+-- `kernel::band::build`: the empty kernel at radius 0, and otherwise what the two walks and the marking of runs leave.
+use mathlib.Core.Path.{refl, _∙_}
 use denote.Ref.{now}
 use Rattle.grid.proofs.Literals.{literal-0}
 use Rattle.kernel.specs.Kernel.{sheetOf}
 use Rattle.kernel.proofs.Reaches.{sheet-high, sheet-beyond}
-use Rattle.kernel.proofs.Built.{built-empty, built-walked}
+use Rattle.kernel.proofs.Built.{built-empty, built-outline, built-walked}
 use borrow.Author.Needs.{needs}
 use Rattle.kernel.proofs.band.build.Statement.{statement}
 use Rattle.kernel.proofs.band.build.Tie as tie
@@ -18,6 +18,9 @@ returns c =
 angle-of-requires : tie.Need-angle-of-requires
 angle-of-requires c κs = search needs
 
+reach-by-halves-requires : tie.Need-reach-by-halves-requires
+reach-by-halves-requires c κs = search needs
+
 slice-aggregate-walk-north : tie.Need-slice-aggregate-walk-north
 slice-aggregate-walk-north c = search needs
 
@@ -30,16 +33,39 @@ slice-aggregate-walk-south c = search needs
 walk-south-requires : tie.Need-walk-south-requires
 walk-south-requires c κs = search needs
 
+slice-aggregate-mark : tie.Need-slice-aggregate-mark
+slice-aggregate-mark c = search needs
+
+slice-aggregate-mark-2 : tie.Need-slice-aggregate-mark-2
+slice-aggregate-mark-2 c = search needs
+
+mark-requires : tie.Need-mark-requires
+mark-requires c κs =
+    let w = c .before .before .before .walk-south in
+    let n = c .before .before .before .before .before .before .walk-north in
+    let limit = c .before .before .before .before .before .before .before .before .before .angle-of in
+    let left = c .before .before .before .before .before .before .before .before .before .before .if1 .left in
+    let st = c .before .before .before .before .before .before .before .before .before .before .before .before in
+    let a = st .args in (
+      built-outline (sheetOf (a .grid) (now (a .angles))) (a .row) (a .km) (sheet-high (st .pre .sheet)) (st .pre .on)
+          (rw literal-0 at left) (sheet-beyond (st .pre .sheet) (a .row) (st .pre .on) _)
+          _ _ _ _ (rw (limit .ensures) at (n .ensures)) (rw (limit .ensures) at (w .ensures)) (w .kept .1 .1 .1 .1 .1 .0 ∙ n .kept .1 .1 .1 .1 .1 .0),
+      refl,
+    )
+
 returns-2 : tie.Need-returns-2
 returns-2 c =
-    let st = c .before .before .before .before .before .before .before .before .before in
+    let k = c .before .mark in
+    let w = c .before .before .before .before .before .walk-south in
+    let n = c .before .before .before .before .before .before .before .before .walk-north in
+    let limit = c .before .before .before .before .before .before .before .before .before .before .before .angle-of in
+    let left = c .before .before .before .before .before .before .before .before .before .before .before .before .if1 .left in
+    let st = c .before .before .before .before .before .before .before .before .before .before .before .before .before .before in
     let a = st .args in
-    let n = c .before .before .before .before .walk-north in
-    let w = c .before .walk-south in
-    let limit = c .before .before .before .before .before .before .angle-of in
     built-walked (sheetOf (a .grid) (now (a .angles))) (a .row) (a .km) (sheet-high (st .pre .sheet)) (st .pre .on)
-    (rw literal-0 at (c .before .before .before .before .before .before .before .if1 .left)) (sheet-beyond (st .pre .sheet) (a .row) (st .pre .on) _)
-    _ _ _ _ (rw (limit .ensures) at (n .ensures)) (rw (limit .ensures) at (w .ensures)) (w .kept .1 .1 .1 .1 .0 ∙ n .kept .1 .1 .1 .1 .0)
+    (rw literal-0 at left) (sheet-beyond (st .pre .sheet) (a .row) (st .pre .on) _)
+    _ _ _ _ (rw (limit .ensures) at (n .ensures)) (rw (limit .ensures) at (w .ensures))
+    _ (k .ensures) (w .kept .1 .1 .1 .1 .1 .0 ∙ n .kept .1 .1 .1 .1 .1 .0) (k .kept .1 .1 .1 .0)
 
 pub build-spec : {M : Type 1} → statement M
 build-spec =
@@ -47,8 +73,12 @@ build-spec =
     (tie.spec
     returns
     angle-of-requires
+    reach-by-halves-requires
     slice-aggregate-walk-north
     walk-north-requires
     slice-aggregate-walk-south
     walk-south-requires
+    slice-aggregate-mark
+    slice-aggregate-mark-2
+    mark-requires
     returns-2)

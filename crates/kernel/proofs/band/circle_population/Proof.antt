@@ -1,87 +1,114 @@
 -- `kernel::band::circle_population`. Invariant: the people are those of the rows above.
-use Prim.Native.Nat.{ℕ, _+_, _-_, _≤_}
+use Prim.Native.Nat.{ℕ, _+_, _-_, _≤_, _<_}
 use mathlib.Core.Path.{_≡_, sym, ap, _∙_}
 use native.Mathlib.Omega.{arith}
 use denote.Ref.{now}
+use lib.ListN.{getD}
 use Rattle.lists.specs.Counted.{sumBelow}
-use Rattle.lists.proofs.Sums.{sum-plus-one}
 use Rattle.table.specs.Summed.{tableMap}
-use Rattle.kernel.proofs.People.{reachPeople, people-touched, people-total, people-north, people-all}
+use Rattle.kernel.proofs.People.{reachPeople, people-run, people-total, people-north, people-all}
 use borrow.Author.Needs.{needs}
 use Rattle.kernel.proofs.band.circle_population.Statement.{statement}
 use Rattle.kernel.proofs.band.circle_population.Tie as tie
 
 abbrev Inv-loop : tie.InvT-loop
-Inv-loop grid sums col reach end people₀ row₀ people row =
+Inv-loop grid sums north end reach run col people₀ row₀ people row =
     (row₀ ≤ row) × (row ≤ end) × (people ≡ sumBelow row (reachPeople (tableMap grid sums) col reach))
 
 abbrev μ-loop : tie.MeasureT-loop
-μ-loop grid sums col reach end people₀ row₀ people row = end - row
+μ-loop grid sums north end reach run col people₀ row₀ people row = end - row
 
--- a turn adds the people of its row
-next : (c : tie.After-row-span Inv-loop μ-loop) → c .before .before .loop .people + c .row-span .result
-    ≡ sumBelow (c .before .before .loop .row + 1)
-    (reachPeople (tableMap (c .before .before .before .before .before .args .grid) (now (c .before .before .before .before .before .args .sums)))
-    (c .before .before .before .before .before .args .col) (c .before .before .before .before .before .args .kernel .reach))
+-- a turn adds the people of its run
+next : (c : tie.After-band-span Inv-loop μ-loop) → let a = c .before .before .before .before .before .before .before .before .args in
+    c .before .before .before .before .before .before .loop .people + c .band-span .result
+    ≡ sumBelow (c .before .wide2 .result) (reachPeople (tableMap (a .grid) (now (a .sums))) (a .col) (now (a .reach)))
 next c =
-    let l = c .before .before .loop in
-    let st = c .before .before .before .before .before in
+    let l = c .before .before .before .before .before .before .loop in
+    let st = c .before .before .before .before .before .before .before .before in
     let a = st .args in
-    let m = tableMap (a .grid) (now (a .sums)) in
-    let t = people-touched m (a .col) (a .kernel .reach) (l .row) (st .pre .band .touched (l .row) (l .inv .0) (c .before .loop-test .taken)) in
-    omega (arith, l .inv .2, c .row-span .ensures, t, sum-plus-one (l .row) (reachPeople m (a .col) (a .kernel .reach)))
+    let t = c .before .before .before .before .before .loop-test .taken in
+    let r = st .pre .runs in
+    let to = r .within (l .row) (l .inv .0) t in
+    let run =
+    people-run (tableMap (a .grid) (now (a .sums))) (a .col) (now (a .reach)) (l .row) (getD (now (a .run)) (l .row) 0)
+    (r .onward (l .row) (l .inv .0) t) (omega (arith, st .pre .band .on)) (st .pre .band .touched (l .row) (l .inv .0) t) (r .alike (l .row) (l .inv .0) t) in
+    rw (c .before .wide2 .ensures) (omega (arith, l .inv .2, rw (c .before .before .before .wide .ensures, c .before .wide2 .ensures) at (c .band-span .ensures), run))
+
+-- where the turn's run ends
+module _ (c : tie.After-wide2 Inv-loop μ-loop) where
+  abbrev st : tie.Start Inv-loop μ-loop
+  st = c .before .before .before .before .before .before .before
+
+  abbrev l : tie.At-loop Inv-loop μ-loop
+  l = c .before .before .before .before .before
+
+  taken : l .loop .row < st .args .end
+  taken = c .before .before .before .before .loop-test .taken
+
+  onward : l .loop .row < c .wide2 .result
+  onward = omega (arith, c .wide2 .ensures, st .pre .runs .onward (l .loop .row) (l .loop .inv .0) taken)
+
+  within : c .wide2 .result ≤ st .args .end
+  within = omega (arith, c .wide2 .ensures, st .pre .runs .within (l .loop .row) (l .loop .inv .0) taken)
+
+  touched : 0 < c .before .before .wide .result
+  touched = omega (arith, c .before .before .wide .ensures, st .pre .band .touched (l .loop .row) (l .loop .inv .0) taken)
 
 loop-holds : tie.Need-loop-holds Inv-loop μ-loop
 loop-holds c =
-    let st = c .before .before in
-    let a = st .args in
+    let st = c .before in
     let b = st .pre .band in
-    (omega arith, omega (arith, b .north-on, b .end-on), sym (people-north (tableMap (a .grid) (now (a .sums))) (a .col) (a .kernel) b))
+    (omega arith, b .end-on, sym (people-north _ (st .args .col) _ b))
 
-cast-n : tie.Need-cast-n Inv-loop μ-loop
-cast-n c = search needs
+cast-wide : tie.Need-cast-wide Inv-loop μ-loop
+cast-wide c = search needs
 
-array-read-n : tie.Need-array-read-n Inv-loop μ-loop
-array-read-n c = search needs
+element-copy-out-wide : tie.Need-element-copy-out-wide Inv-loop μ-loop
+element-copy-out-wide c = search needs
 
-cast-n-2 : tie.Need-cast-n-2 Inv-loop μ-loop
-cast-n-2 c = search needs
+wide-requires : tie.Need-wide-requires Inv-loop μ-loop
+wide-requires c κs = search needs
 
-sub-row-span : tie.Need-sub-row-span Inv-loop μ-loop
-sub-row-span c =
-    let st = c .before .before .before .before in
-    let a = st .args in
-    let l = c .before .loop in
-    omega (arith, st .pre .band .touched (l .row) (l .inv .0) (c .loop-test .taken))
+cast-wide-2 : tie.Need-cast-wide-2 Inv-loop μ-loop
+cast-wide-2 c = search needs
 
-row-span-requires : tie.Need-row-span-requires Inv-loop μ-loop
-row-span-requires c κs = search needs
+element-copy-out-wide-2 : tie.Need-element-copy-out-wide-2 Inv-loop μ-loop
+element-copy-out-wide-2 c = search needs
+
+wide-requires-2 : tie.Need-wide-requires-2 Inv-loop μ-loop
+wide-requires-2 c κs = search needs
+
+sub-band-span : tie.Need-sub-band-span Inv-loop μ-loop
+sub-band-span c = omega (arith, onward c)
+
+sub-band-span-2 : tie.Need-sub-band-span-2 Inv-loop μ-loop
+sub-band-span-2 c = touched c
+
+band-span-requires : tie.Need-band-span-requires Inv-loop μ-loop
+band-span-requires c κs =
+    (st c .pre .table, record { ordered = omega (arith, onward c); south = omega (arith, onward c, within c, st c .pre .band .on); col = st c .pre .on })
 
 add-people : tie.Need-add-people Inv-loop μ-loop
 add-people c =
-    let st = c .before .before .before .before .before in
+    let st = st (c .before) in
     let a = st .args in
-    let l = c .before .before .loop in
-    let m = tableMap (a .grid) (now (a .sums)) in
-    omega (arith, next c, people-total m (a .col) (a .kernel .reach) (l .row + 1) (omega (arith, st .pre .band .on)), st .pre .table .exact)
-
-add-row : tie.Need-add-row Inv-loop μ-loop
-add-row c = search needs
+    let all = people-total (tableMap (a .grid) (now (a .sums))) (a .col) (now (a .reach)) (c .before .wide2 .result) (omega (arith, st .pre .band .on, within (c .before))) in
+    omega (arith, next c, all, st .pre .table .exact)
 
 loop-less : tie.Need-loop-less Inv-loop μ-loop
-loop-less c = search needs
+loop-less c = omega (arith, onward (c .before))
 
 loop-again : tie.Need-loop-again Inv-loop μ-loop
-loop-again c = let l = c .before .before .loop in (omega (arith, l .inv .0), search needs, next c)
+loop-again c = (omega (arith, c .before .before .before .before .before .before .loop .inv .0, onward (c .before)), within (c .before), next c)
 
 returns : tie.Need-returns Inv-loop μ-loop
 returns c =
-    let st = c .before .before .before .before in
+    let st = c .before .before .before in
     let a = st .args in
     let l = c .before .loop in
-    let e : l .row ≡ a .kernel .end = omega arith in
+    let e : l .row ≡ a .end = omega arith in
     let m = tableMap (a .grid) (now (a .sums)) in
-    l .inv .2 ∙ ap (λ (n : ℕ). sumBelow n (reachPeople m (a .col) (a .kernel .reach))) e ∙ people-all m (a .col) (a .kernel) (st .pre .band)
+    l .inv .2 ∙ ap (λ (n : ℕ). sumBelow n (reachPeople m (a .col) (now (a .reach)))) e ∙ people-all m (a .col) _ (st .pre .band)
 
 pub circle-population-spec : {M : Type 1} → statement M
 circle-population-spec =
@@ -90,13 +117,16 @@ circle-population-spec =
     Inv-loop
     μ-loop
     loop-holds
-    cast-n
-    array-read-n
-    cast-n-2
-    sub-row-span
-    row-span-requires
+    cast-wide
+    element-copy-out-wide
+    wide-requires
+    cast-wide-2
+    element-copy-out-wide-2
+    wide-requires-2
+    sub-band-span
+    sub-band-span-2
+    band-span-requires
     add-people
-    add-row
     loop-less
     loop-again
     returns)

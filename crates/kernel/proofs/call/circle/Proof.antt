@@ -4,6 +4,7 @@ use denote.Ref.{now}
 use Rattle.grid.specs.Map.{Map}
 use Rattle.kernel.specs.Call.{circleAnswer}
 use Rattle.kernel.proofs.Calls.{CirclePassed, circle-passed, circle-refused, circle-answered}
+use Rattle.kernel.proofs.Placing.{rows-placed, rows-people}
 use Rattle.kernel.proofs.Accepted.{to-fill, to-build, to-sum, summed-up, sums-filled}
 use borrow.Author.Needs.{needs}
 use Rattle.kernel.proofs.call.circle.Statement.{statement}
@@ -44,11 +45,11 @@ build-requires c κs = to-build (passed (c .before .before .before .before .befo
 
 circle-population-requires : tie.Need-circle-population-requires
 circle-population-requires c κs =
-    let e = c .before .before .before .before .before .before .before in
-    let filled = c .before .before .before .before .before .fill-sums in
-    let built = c .before .build in
+    let e = c .before .before .before .before .before .before .before .before .before .before in
+    let filled = c .before .before .before .before .before .before .before .before .fill-sums in
+    let built = c .before .before .before .before .build in
     let counts = e .before .before .before .before .before .before .shared-slice-known in
-    to-sum (passed e) _ (filled .ensures) _ (built .ensures) (λ i. counts .given i .fits)
+    rows-placed (to-sum (passed e) _ (filled .ensures) _ (built .ensures) (λ i. counts .given i .fits))
 
 same-length-2 : tie.Need-same-length-2
 same-length-2 c = search needs
@@ -56,11 +57,11 @@ same-length-2 c = search needs
 returns-2 : tie.Need-returns-2
 unfolding circleAnswer
 returns-2 c =
-    let e = c .before .before .before .before .before .before .before .before in
-    let filled = c .before .before .before .before .before .before .fill-sums in
-    let built = c .before .before .build in
+    let e = c .before .before .before .before .before .before .before .before .before .before .before in
+    let filled = c .before .before .before .before .before .before .before .before .before .fill-sums in
+    let built = c .before .before .before .before .before .build in
     circle-answered _ _ _ _ _ _ (sym (e .before .circle-refusal .ensures) ∙ e .if1 .left)
-    (c .circle-population .ensures ∙ summed-up (passed e) _ (filled .ensures) _ (built .ensures))
+    (c .circle-population .ensures ∙ rows-people _ (built .result) _ ∙ summed-up (passed e) _ (filled .ensures) _ (built .ensures))
     (sums-filled (passed e) _ (filled .ensures) _ (built .ensures))
 
 pub circle-spec : {M : Type 1} → statement M

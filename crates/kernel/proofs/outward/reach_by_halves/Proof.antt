@@ -1,73 +1,21 @@
--- `kernel::outward::reach_by_halves`. Invariant: every offset below low is within the angle, and none from high on.
-use Prim.Native.Nat.{ℕ, _+_, _-_, _*_, _/_, _≤_, _<_}
+-- `kernel::outward::reach_by_halves`. Invariant: the offset before low is within the angle and the one at high is not, if they were tested.
+use Prim.Native.Nat.{_+_, _-_, _/_, _≤_, _<_}
 use mathlib.Core.Path.{_≡_, sym, _∙_}
-use mathlib.Core.Bool.{Bool, true, false}
-use mathlib.Core.List.{List}
+use mathlib.Core.Bool.{true, false}
+use native.Mathlib.Nat.{add-sub-cancel}
 use native.Mathlib.Omega.{arith}
-use lib.ListN.{length, getD}
-use lib.Ieee.{Float, nan, le}
-use Rattle.grid.specs.declared.Row.{Row}
-use Rattle.grid.specs.declared.Grid.{Grid}
 use Rattle.grid.specs.Grid.{closing}
-use Rattle.grid.specs.Map.{Globe, angleAt, sheetIndex}
-use Rattle.grid.specs.Sheet.{InSheet}
-use Rattle.grid.proofs.Index.{place-in}
-use Rattle.kernel.specs.Kernel.{reach, globeOf, sheetOf}
-use Rattle.kernel.specs.Walk.{PairOnSheet}
-use Rattle.kernel.proofs.Reaches.{inside, inside-below, outside-above, reach-is, reach-sheet, sheet-order, sheet-length, sheet-wide, sheet-high}
+use Rattle.kernel.specs.Walk.{passes}
+use Rattle.kernel.proofs.Reaches.{sheet-wide}
+use Rattle.kernel.proofs.Edges.{place-of, place-fits, edge-reach}
 use borrow.Author.Needs.{needs}
 use Rattle.kernel.proofs.outward.reach_by_halves.Statement.{statement}
 use Rattle.kernel.proofs.outward.reach_by_halves.Tie as tie
 
--- whether the angle at an offset of the row that starts at a place is within the limit
-abbrev passes : List Float → ℕ → Float → ℕ → Bool
-passes angles first limit k = le (getD angles (first + k) nan) limit
-
--- a row of the sheet, found by its first place
-module _ {g : Grid} {angles : List Float} {c r : Row} (p : PairOnSheet g angles c r) where
-  place-of : (k : ℕ) → k ≤ closing g → InSheet g c r k
-  place-of k l =
-      record {
-        wide = sheet-wide (p .sheet);
-        high = sheet-high (p .sheet);
-        centre-on = p .centre-on;
-        row-on = p .row-on;
-        offset-on = l;
-      }
-
-  module _ {first : ℕ} (e : first ≡ sheetIndex g c r 0) where
-    place-fits : (k : ℕ) → k ≤ closing g → first + k < length angles
-    unfolding sheetIndex
-    place-fits k l = omega (arith, e, place-in g c r k (place-of k l), sheet-length (p .sheet))
-
-    module _ (limit : Float) where
-      abbrev s : Globe
-      s = globeOf g angles (p .sheet .cosines)
-
-      passes-is : (k : ℕ) → passes angles first limit k ≡ inside s (c .0) (r .0) limit k
-      unfolding inside angleAt sheetIndex
-      passes-is k = let f : first + k ≡ (c .0 * g .height + r .0) * (closing g + 1) + k = omega (arith, e) in rw f
-
-      below : (m : ℕ) → m ≤ closing g → passes angles first limit m ≡ true → (k : ℕ) → k < m + 1 → passes angles first limit k ≡ true
-      below m l h k u =
-          passes-is k
-          ∙ inside-below s (sheet-order (p .sheet)) (c .0) (p .centre-on) limit (r .0) (p .row-on) m l (sym (passes-is m) ∙ h) k u
-
-      above : (m : ℕ) → passes angles first limit m ≡ false → (k : ℕ) → m ≤ k → k < closing g + 1 → passes angles first limit k ≡ false
-      above m h k u l =
-          passes-is k
-          ∙ outside-above s (sheet-order (p .sheet)) (c .0) (p .centre-on) limit (r .0) (p .row-on) m (sym (passes-is m) ∙ h) k u l
-
-      found : (n : ℕ) → n ≤ closing g + 1 → ((k : ℕ) → k < n → passes angles first limit k ≡ true)
-          → ((k : ℕ) → n ≤ k → k < closing g + 1 → passes angles first limit k ≡ false) → n ≡ reach (sheetOf g angles) c r limit
-      found n l pass fail =
-          sym (reach-is s (c .0) (r .0) limit n l (λ k h. sym (passes-is k) ∙ pass k h) (λ k h u. sym (passes-is k) ∙ fail k h u))
-          ∙ reach-sheet g angles (p .sheet .cosines) c r limit
-
 abbrev Inv-loop : tie.InvT-loop
 Inv-loop angles limit first low₀ high₀ low high =
-    (low ≤ high) × (high ≤ high₀) × ((k : ℕ) → k < low → passes angles first limit k ≡ true)
-    × ((k : ℕ) → high ≤ k → k < high₀ → passes angles first limit k ≡ false)
+    (low ≤ high) × (high ≤ high₀) × (0 < low → passes angles first limit (low - 1) ≡ true)
+    × (high < high₀ → passes angles first limit high ≡ false)
 
 abbrev μ-loop : tie.MeasureT-loop
 μ-loop angles limit first low₀ high₀ low high = high - low
@@ -83,7 +31,7 @@ add-high : tie.Need-add-high Inv-loop μ-loop
 add-high c = search needs
 
 loop-holds : tie.Need-loop-holds Inv-loop μ-loop
-loop-holds c = (search needs, search needs, (λ k h. absurd (omega arith)), (λ k h l. absurd (omega arith)))
+loop-holds c = (search needs, search needs, (λ h. absurd (omega arith)), (λ h. absurd (omega arith)))
 
 sub-middle : tie.Need-sub-middle Inv-loop μ-loop
 sub-middle c = search needs
@@ -138,7 +86,7 @@ loop-again c =
     let m = l .low + (l .high - l .low) / 2 in (
       search needs,
       search needs,
-      below (st .pre) (f .ensures) (st .args .limit) m (omega arith) (sym (c .before .within .ensures) ∙ c .if1 .taken),
+      λ h. rw add-sub-cancel (sym (c .before .within .ensures) ∙ c .if1 .taken),
       l .inv .3,
     )
 
@@ -152,7 +100,7 @@ loop-again-2 c =
     let st = c .before .before .before .before .before .before .before .before in
     let f = c .before .before .before .before .before .before .sheet-index in
     let m = l .low + (l .high - l .low) / 2 in
-    (search needs, search needs, l .inv .2, above (st .pre) (f .ensures) (st .args .limit) m (sym (c .before .within .ensures) ∙ c .if1 .left))
+    (search needs, search needs, l .inv .2, λ h. sym (c .before .within .ensures) ∙ c .if1 .left)
 
 cast-result : tie.Need-cast-result Inv-loop μ-loop
 unfolding closing
@@ -167,7 +115,9 @@ returns c =
     let l = c .before .loop in
     let st = c .before .before .before .before .before in
     let f = c .before .before .before .sheet-index in
-    found (st .pre) (f .ensures) (st .args .limit) (l .low) (omega arith) (l .inv .2) (λ k h u. l .inv .3 k (omega arith) u)
+    let met : l .low ≡ l .high = omega arith in
+    edge-reach (st .pre) (f .ensures) (st .args .limit) (l .low)
+    (record { from = omega arith; to = omega arith; passed = l .inv .2; failed = λ h. rw met (l .inv .3 (omega arith)) })
 
 pub reach-by-halves-spec : {M : Type 1} → statement M
 reach-by-halves-spec =

@@ -12,17 +12,17 @@ use Rattle.kernel.proofs.outward.walk_north.Statement.{statement}
 use Rattle.kernel.proofs.outward.walk_north.Tie as tie
 
 abbrev Inv-loop : tie.InvT-loop
-Inv-loop grid angles centre limit reaches₀ north₀ reaches north =
+Inv-loop grid angles centre limit guess₀ reaches₀ north₀ guess reaches north =
     (length reaches ≡ length reaches₀) × Filled (reachIn (sheetOf grid angles) centre limit) north (centre .0) reaches₀ reaches
 
 abbrev μ-loop : tie.MeasureT-loop
-μ-loop grid angles centre limit reaches₀ north₀ reaches north = north
+μ-loop grid angles centre limit guess₀ reaches₀ north₀ guess reaches north = north
 
 loop-holds : tie.Need-loop-holds Inv-loop μ-loop
 loop-holds c = (refl, filled-none _ _)
 
-sub-t9 : tie.Need-sub-t9 Inv-loop μ-loop
-sub-t9 c = search needs
+sub-t10 : tie.Need-sub-t10 Inv-loop μ-loop
+sub-t10 c = search needs
 
 reach-of-requires : tie.Need-reach-of-requires Inv-loop μ-loop
 reach-of-requires c κs =
@@ -76,7 +76,7 @@ walk-north-spec =
     Inv-loop
     μ-loop
     loop-holds
-    sub-t9
+    sub-t10
     reach-of-requires
     same-length
     returns

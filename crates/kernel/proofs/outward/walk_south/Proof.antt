@@ -12,11 +12,11 @@ use Rattle.kernel.proofs.outward.walk_south.Statement.{statement}
 use Rattle.kernel.proofs.outward.walk_south.Tie as tie
 
 abbrev Inv-loop : tie.InvT-loop
-Inv-loop grid angles centre limit reaches₀ end₀ reaches end =
+Inv-loop grid angles centre limit guess₀ reaches₀ end₀ guess reaches end =
     (length reaches ≡ length reaches₀) × (end ≤ grid .height) × Filled (reachIn (sheetOf grid angles) centre limit) (centre .0) end reaches₀ reaches
 
 abbrev μ-loop : tie.MeasureT-loop
-μ-loop grid angles centre limit reaches₀ end₀ reaches end = grid .height - end
+μ-loop grid angles centre limit guess₀ reaches₀ end₀ guess reaches end = grid .height - end
 
 loop-holds : tie.Need-loop-holds Inv-loop μ-loop
 loop-holds c = let st = c .before .before in (refl, omega (arith, st .pre .0 .on), filled-none _ _)

@@ -1,114 +1,361 @@
--- `levels::sweep::chunk`. Invariant: the work is the definition's over the blocks passed, and their children are written;
--- the spare kernel is that of its row and radius.
-use Rattle.levels.proofs.OneBlock.{ready-sheet}
+-- `levels::sweep::chunk`. Invariant: the work is the definition's over the blocks passed, and their children are written; the exact
+-- kernel is that of its row, and each wide one serves its shape.
 use lib.ListN.{length}
 use Prim.Native.Nat.{_-_, _<_}
-use mathlib.Core.Path.{subst}
+use mathlib.Core.Path.{_≡_, sym, ap, subst, _∙_}
+use mathlib.Core.Bool.{true, cond}
+use mathlib.Core.List.{List, [], _∷_, _++_}
+use mathlib.Core.Logic.{⊎-elim}
 use native.Mathlib.Omega.{arith}
 use denote.Ref.{now}
+use lib.Ieee.{Float, eq}
+use Rattle.grid.specs.declared.Cell.{Cell}
+use Rattle.grid.specs.Map.{Map}
+use Rattle.kernel.specs.Circle.{population}
+use Rattle.kernel.specs.Kernel.{kernelOf, globeOf, sheetOf}
+use Rattle.kernel.proofs.Populations.{same-population}
+use Rattle.lists.proofs.Bools.{of-true}
+use Rattle.blocks.specs.declared.Block.{Block}
+use Rattle.blocks.specs.Block.{probe, Rectangle}
+use Rattle.bounds.specs.Bound.{wideKm, wideKernel}
 use Rattle.candidates.specs.declared.Held.{Held}
-use Rattle.levels.specs.Level.{chunk}
-use Rattle.levels.specs.Work.{mapOf, OwnKernel}
+use Rattle.levels.specs.Level.{examine, chunk}
 use Rattle.levels.specs.Buffer.{blocksFrom, Swept}
-use Rattle.levels.proofs.HeldKernels.{spare-own}
-use Rattle.levels.proofs.Sweeps.{Sweeping, start-held, start-own, sweep-start, sweep-examines, sweep-room, sweep-next, sweep-done}
+use Rattle.blocks.specs.Word.{CanSplit}
+use Rattle.levels.specs.declared.ChunkWork.{ChunkWork}
+use Rattle.levels.specs.Work.{mapOf, KernelAt, Serves, CanCount, workOf}
+use Rattle.levels.proofs.Serving.{kernel-at, kernel-kept, wide-at, wide-radius, serves-none, serves-own, serves-still}
+use Rattle.levels.proofs.OneBlock.{ready-sheet, ready-cosines, probe-row, probe-placed, probe-people, not-asked, examined-is}
+use Rattle.levels.proofs.Sweeps.{Sweeping, middle-on, start-held, start-own, sweep-start, next-rectangle, sweep-counts, sweep-room, sweep-next, sweep-done}
+use borrow.Author.Tests.{not-false, eqb-true}
 use borrow.Author.Needs.{needs}
 use Rattle.levels.proofs.sweep.chunk.Statement.{statement}
 use Rattle.levels.proofs.sweep.chunk.Tie as tie
 
 abbrev Inv-loop : tie.InvT-loop
-Inv-loop grid angles cosines sums near start end km far₀ live work₀ spare₀ at₀ i₀ far work spare at i =
-    Sweeping grid angles cosines sums near start end km (work₀ .held) far₀ live far work at i × OwnKernel grid angles spare
+Inv-loop grid angles cosines sums near start end km far₀ live exact₀ one₀ one-shape₀ two₀ two-shape₀ work₀ at₀ i₀ far exact one one-shape two two-shape work at i =
+    Sweeping grid angles cosines sums near start end km (work₀ .held) far₀ live far work at i
+    × KernelAt grid angles km exact × Serves grid angles cosines km one-shape one × Serves grid angles cosines km two-shape two
 
 abbrev μ-loop : tie.MeasureT-loop
-μ-loop grid angles cosines sums near start end km far₀ live work₀ spare₀ at₀ i₀ far work spare at i = end - i
+μ-loop grid angles cosines sums near start end km far₀ live exact₀ one₀ one-shape₀ two₀ two-shape₀ work₀ at₀ i₀ far exact one one-shape two two-shape work at i =
+    end - i
+
+-- ---- a turn, seen from its block
+
+abbrev start-of : tie.At-loop Inv-loop μ-loop → tie.Start Inv-loop μ-loop
+start-of c = c .before .before .before .before .before .before .before .before .before .before
+
+abbrev the-map : tie.At-loop Inv-loop μ-loop → Map
+the-map c = let a = start-of c .args in mapOf (a .grid) (now (a .angles)) (now (a .cosines)) (now (a .sums))
+
+abbrev head-of : tie.After-odd-columns Inv-loop μ-loop → tie.At-loop Inv-loop μ-loop
+head-of c = c .before .before .before .before .before
+
+abbrev block-of : tie.After-odd-columns Inv-loop μ-loop → Block
+block-of c = c .before .before .from-word .result
+
+rectangle : (c : tie.After-odd-columns Inv-loop μ-loop) → Rectangle (start-of (head-of c) .args .grid) (block-of c)
+rectangle c =
+    let st = start-of (head-of c) in
+    let l = head-of c .loop in
+    subst (Rectangle (st .args .grid)) (sym (c .before .before .from-word .ensures))
+    (next-rectangle _ _ _ _ _ _ _ _ _ _ _ (st .pre .0) (st .pre .1 .0) (st .pre .1 .1) (l .far) (l .work) (l .at) (l .i) (l .inv .0) (c .before .before .before .before .loop-test .taken))
+
+-- ---- the wide kernels
+
+one-wide : (c : tie.Joined2 Inv-loop μ-loop) → let h = c .before .before .before in c .if2 .one ≡ wideKernel (the-map (head-of h) .globe) (start-of (head-of h) .args .km) (block-of h)
+one-wide c =
+    let h = c .before .before .before in
+    ⊎-elim (λ w. w .2 ∙ w .1 .ensures)
+    (λ w. w .1 ∙ head-of h .loop .inv .2 (block-of h) (rectangle h) (sym (c .before .same-shape .ensures) ∙ not-false _ (w .0 .left)))
+    (c .if2 .came)
+
+one-serves : (c : tie.Joined2 Inv-loop μ-loop) → let a = start-of (head-of (c .before .before .before)) .args in
+    Serves (a .grid) (now (a .angles)) (now (a .cosines)) (a .km) (c .if2 .one-shape) (c .if2 .one)
+one-serves c =
+    ⊎-elim (λ w. serves-own _ _ _ _ (c .if2 .one-shape) (block-of (c .before .before .before)) (c .if2 .one) (w .3) (w .2 ∙ w .1 .ensures))
+    (λ w. serves-still _ _ _ _ _ (c .if2 .one-shape) _ (c .if2 .one) (w .2) (w .1) (head-of (c .before .before .before) .loop .inv .2))
+    (c .if2 .came)
+
+two-wide : (c : tie.Joined3 Inv-loop μ-loop) → let h = c .before .before .before in c .if3 .two ≡ wideKernel (the-map (head-of h) .globe) (start-of (head-of h) .args .km) (block-of h)
+two-wide c =
+    let h = c .before .before .before in
+    ⊎-elim (λ w. w .2 ∙ w .1 .ensures)
+    (λ w. w .1 ∙ head-of h .loop .inv .3 (block-of h) (rectangle h) (sym (c .before .same-shape2 .ensures) ∙ not-false _ (w .0 .left)))
+    (c .if3 .came)
+
+two-serves : (c : tie.Joined3 Inv-loop μ-loop) → let a = start-of (head-of (c .before .before .before)) .args in
+    Serves (a .grid) (now (a .angles)) (now (a .cosines)) (a .km) (c .if3 .two-shape) (c .if3 .two)
+two-serves c =
+    ⊎-elim (λ w. serves-own _ _ _ _ (c .if3 .two-shape) (block-of (c .before .before .before)) (c .if3 .two) (w .3) (w .2 ∙ w .1 .ensures))
+    (λ w. serves-still _ _ _ _ _ (c .if3 .two-shape) _ (c .if3 .two) (w .2) (w .1) (head-of (c .before .before .before) .loop .inv .3))
+    (c .if3 .came)
+
+-- ---- a block's wide radius and bound, either way
+
+module _ (c : tie.Joined1 Inv-loop μ-loop) where
+  abbrev h : tie.After-odd-columns Inv-loop μ-loop
+  h = c .before
+
+  abbrev a : tie.Start Inv-loop μ-loop
+  a = start-of (head-of h)
+
+  abbrev wide-there : Float
+  wide-there = wideKm (the-map (head-of h) .globe) (a .args .km) (block-of h)
+
+  wide-is : c .if1 .wide ≡ wide-there
+  wide-is =
+      ⊎-elim
+      (λ w. w .11 ∙ wide-radius _ _ (block-of h) (w .2 .one) (one-wide (record { before = record { before = record { before = h; if1 = w .0 }; same-shape = w .1 }; if2 = w .2 })))
+      (λ w. w .11 ∙ wide-radius _ _ (block-of h) (w .2 .two) (two-wide (record { before = record { before = record { before = h; if1 = w .0 }; same-shape2 = w .1 }; if3 = w .2 })))
+      (c .if1 .came)
+
+  bound-there : c .if1 .bound ≡ population (the-map (head-of h)) wide-there (probe (block-of h))
+  bound-there =
+      ⊎-elim
+      (λ w. w .12 ∙ w .6 .ensures
+      ∙ probe-people _ _ _ _ (a .pre .0) (block-of h) (rectangle h) (h .before .probe .result) (h .before .probe .ensures) _ (w .2 .one)
+      (wide-at _ _ (block-of h) (w .2 .one) (one-wide (record { before = record { before = record { before = h; if1 = w .0 }; same-shape = w .1 }; if2 = w .2 }))))
+      (λ w. w .12 ∙ w .6 .ensures
+      ∙ probe-people _ _ _ _ (a .pre .0) (block-of h) (rectangle h) (h .before .probe .result) (h .before .probe .ensures) _ (w .2 .two)
+      (wide-at _ _ (block-of h) (w .2 .two) (two-wide (record { before = record { before = record { before = h; if1 = w .0 }; same-shape2 = w .1 }; if3 = w .2 }))))
+      (c .if1 .came)
+
+  bound-is : c .if1 .bound ≡ population (the-map (head-of h)) (c .if1 .wide) (probe (block-of h))
+  bound-is = bound-there ∙ ap (λ (x : Float). population (the-map (head-of h)) x (probe (block-of h))) (sym wide-is)
+
+  one-after : Serves (a .args .grid) (now (a .args .angles)) (now (a .args .cosines)) (a .args .km) (c .if1 .one-shape) (c .if1 .one)
+  one-after =
+      ⊎-elim
+      (λ w. serves-still _ _ _ _ _ (c .if1 .one-shape) _ (c .if1 .one) (w .8) (w .7)
+      (one-serves (record { before = record { before = record { before = h; if1 = w .0 }; same-shape = w .1 }; if2 = w .2 })))
+      (λ w. serves-still _ _ _ _ _ (c .if1 .one-shape) _ (c .if1 .one) (w .8) (w .7) (head-of h .loop .inv .2))
+      (c .if1 .came)
+
+  two-after : Serves (a .args .grid) (now (a .args .angles)) (now (a .args .cosines)) (a .args .km) (c .if1 .two-shape) (c .if1 .two)
+  two-after =
+      ⊎-elim
+      (λ w. serves-still _ _ _ _ _ (c .if1 .two-shape) _ (c .if1 .two) (w .10) (w .9) (head-of h .loop .inv .3))
+      (λ w. serves-still _ _ _ _ _ (c .if1 .two-shape) _ (c .if1 .two) (w .10) (w .9)
+      (two-serves (record { before = record { before = record { before = h; if1 = w .0 }; same-shape2 = w .1 }; if3 = w .2 })))
+      (c .if1 .came)
+
+-- ---- the exact kernel, and a survivor's people
+
+exact-is : (c : tie.Joined5 Inv-loop μ-loop) → let h = c .before .before .before .before .before .before .before in
+    c .if5 .exact ≡ kernelOf (sheetOf (start-of (head-of h) .args .grid) (now (start-of (head-of h) .args .angles))) (probe (block-of h) .row) (start-of (head-of h) .args .km)
+exact-is c =
+    let h = c .before .before .before .before .before .before .before in
+    let a = start-of (head-of h) .args in
+    let p = h .before .probe in
+    ⊎-elim (λ w. w .2 ∙ w .1 .ensures ∙ ap (λ (x : Cell). kernelOf (sheetOf (a .grid) (now (a .angles))) (x .row) (a .km)) (p .ensures))
+    (λ w. w .1 ∙ kernel-kept _ _ (probe (block-of h) .row) _ (head-of h .loop .exact) (head-of h .loop .inv .1)
+    (eqb-true _ _ (sym (c .before .same-row .ensures) ∙ not-false _ (w .0 .left)) ∙ ap (λ (x : Cell). x .row .0) (p .ensures)))
+    (c .if5 .came)
+
+module _ (c : tie.Joined4 Inv-loop μ-loop) where
+  abbrev j : tie.Joined1 Inv-loop μ-loop
+  j = c .before .before .before
+
+  abbrev b : tie.After-odd-columns Inv-loop μ-loop
+  b = j .before
+
+  abbrev st : tie.Start Inv-loop μ-loop
+  st = start-of (head-of b)
+
+  exact-after : KernelAt (st .args .grid) (now (st .args .angles)) (st .args .km) (c .if4 .exact)
+  exact-after =
+      ⊎-elim
+      (λ w. kernel-at _ _ (probe (block-of b) .row) _ (c .if4 .exact)
+      (w .8 ∙ exact-is (record {
+        before = record { before = record { before = record { before = c .before; if4 = w .0 }; same-row-arg = w .1 }; same-row = w .2 };
+        if5 = w .3;
+      })))
+      (λ w. subst (KernelAt _ _ _) (sym (w .1)) (head-of b .loop .inv .1))
+      (c .if4 .came)
+
+  people-is : c .before .before .survives .result ≡ true → c .if4 .people ≡ population (the-map (head-of b)) (st .args .km) (probe (block-of b))
+  people-is s =
+      ⊎-elim
+      (λ w. w .9 ∙ w .7 .ensures
+      ∙ probe-people _ _ _ _ (st .pre .0) (block-of b) (rectangle b) (b .before .probe .result) (b .before .probe .ensures) _ (w .3 .exact)
+      (exact-is (record {
+        before = record { before = record { before = record { before = c .before; if4 = w .0 }; same-row-arg = w .1 }; same-row = w .2 };
+        if5 = w .3;
+      })))
+      (λ w. w .2 ∙ bound-is j
+      ∙ same-population (the-map (head-of b)) (j .if1 .wide) (st .args .km)
+      (of-true _ (not-asked _ (eq (j .if1 .wide) (st .args .km)) _ (c .before .asks .ensures) (w .0 .left) s)) (probe (block-of b)))
+      (c .if4 .came)
+
+-- the block's work is the definition's
+seen : (c : tie.After-examined Inv-loop μ-loop) → let b = c .before .before .before .before .before in
+    let s = c .before .before .before .survives .result in
+    (bs : List Block) → workOf (c .examined .result) (cond s (bs ++ block-of b ∷ []) bs)
+    ≡ examine (the-map (head-of b)) (start-of (head-of b) .args .km) (workOf (head-of b .loop .work) bs) (block-of b)
+seen c bs =
+    let b = c .before .before .before .before .before in
+    let s = c .before .before .before .survives in
+    ap (λ (x : ChunkWork). workOf x (cond (s .result) (bs ++ block-of b ∷ []) bs)) (c .examined .ensures)
+    ∙ examined-is (the-map (head-of b)) (start-of (head-of b) .args .km) (head-of b .loop .work) (block-of b) _ (wide-is (c .before .before .before .before)) _ (bound-is (c .before .before .before .before))
+    (s .result) (s .ensures) (c .before .if4 .people) (people-is (c .before)) bs
+
+-- ---- the needs
+
+build-requires : tie.Need-build-requires Inv-loop μ-loop
+build-requires c κs = middle-on _ _ (ready-sheet _ _ _ _ (c .before .before .before .before .before .before .pre .0))
+
+no-shape-requires : tie.Need-no-shape-requires Inv-loop μ-loop
+no-shape-requires c κs = search needs
 
 started-requires : tie.Need-started-requires Inv-loop μ-loop
-started-requires c κs = ready-sheet _ _ _ _ (c .before .before .before .before .before .pre .0)
+started-requires c κs = search needs
 
 loop-holds : tie.Need-loop-holds Inv-loop μ-loop
 loop-holds c =
-    let st = c .before .before .before .before .before .before .before in
-    let a = st .args in
-    let w = c .before .started .result in
-    let s =
-    sweep-start _ _ _ _ _ _ _ _ _ _ _ (st .pre .0) (st .pre .1 .0) (st .pre .1 .1) w
-    (start-own _ _ _ (a .best) w (c .before .started .ensures)) in
-    (s, s .kernels .wide)
+    let st = c .before .before .before .before .before .before .before .before .before in
+    let shape = c .before .no-shape in (
+      sweep-start _ _ _ _ _ _ _ _ _ _ _ (st .pre .0) (st .pre .1 .0) (st .pre .1 .1) (c .started .result) (start-own _ _ _ (c .started .result) (c .started .ensures)),
+      kernel-at _ _ _ _ _ (c .before .before .build .ensures),
+      serves-none _ _ _ _ (shape .result) (shape .ensures) _,
+      serves-none _ _ _ _ (shape .result) (shape .ensures) _,
+    )
 
 mul-from-word : tie.Need-mul-from-word Inv-loop μ-loop
 mul-from-word c =
-    let st = c .before .before .before .before .before .before .before .before .before in
+    let st = start-of (c .before) in
     let h : c .before .loop .i < length (now (st .args .near)) = omega (arith, st .pre .1 .0 .words, c .loop-test .taken) in
     search needs
 
 shared-slice-read-from-word : tie.Need-shared-slice-read-from-word Inv-loop μ-loop
-shared-slice-read-from-word c = search needs
+shared-slice-read-from-word c = omega (arith, start-of (c .before .before) .pre .1 .0 .words, c .before .loop-test .taken)
 
 from-word-requires : tie.Need-from-word-requires Inv-loop μ-loop
 from-word-requires c κs = search needs
 
-examine-requires : tie.Need-examine-requires Inv-loop μ-loop
-examine-requires c κs =
-    let st = c .before .before .before .before .before .before .before .before .before .before .before .before in
-    let l = c .before .before .before .before .loop in (
-      rw (c .before .from-word .ensures)
-          (sweep-examines _ _ _ _ _ _ _ _ _ _ _ (st .pre .0) (st .pre .1 .0) (st .pre .1 .1)
-          (l .far) (l .work) (l .at) (l .i) (l .inv .0) (c .before .before .before .loop-test .taken)),
-      l .inv .1,
-    )
+probe-requires : tie.Need-probe-requires Inv-loop μ-loop
+probe-requires c κs = search needs
 
-spare-after-requires : tie.Need-spare-after-requires Inv-loop μ-loop
-spare-after-requires c κs = search needs
+odd-columns-requires : tie.Need-odd-columns-requires Inv-loop μ-loop
+odd-columns-requires c κs = search needs
+
+same-shape-requires : tie.Need-same-shape-requires Inv-loop μ-loop
+same-shape-requires c κs = search needs
+
+wide-kernel-requires : tie.Need-wide-kernel-requires Inv-loop μ-loop
+wide-kernel-requires c κs =
+    let b = c .before .before .before in
+    let t = start-of (head-of b) .pre .0 in
+    record { sheet = ready-sheet _ _ _ _ t; complete = ready-cosines _ _ _ _ t; rectangle = rectangle b }
+
+circle-population-requires : tie.Need-circle-population-requires Inv-loop μ-loop
+circle-population-requires c κs =
+    let j = c .before .before .before in
+    let b = c .before .before .before .before .before .before in
+    probe-placed _ _ _ _ (start-of (head-of b) .pre .0) (block-of b) (rectangle b) (b .before .probe .result) (b .before .probe .ensures) _ (j .if2 .one)
+    (wide-at _ _ (block-of b) (j .if2 .one) (one-wide j))
+
+same-shape-requires-2 : tie.Need-same-shape-requires-2 Inv-loop μ-loop
+same-shape-requires-2 c κs = search needs
+
+wide-kernel-requires-2 : tie.Need-wide-kernel-requires-2 Inv-loop μ-loop
+wide-kernel-requires-2 c κs =
+    let b = c .before .before .before in
+    let t = start-of (head-of b) .pre .0 in
+    record { sheet = ready-sheet _ _ _ _ t; complete = ready-cosines _ _ _ _ t; rectangle = rectangle b }
+
+circle-population-requires-2 : tie.Need-circle-population-requires-2 Inv-loop μ-loop
+circle-population-requires-2 c κs =
+    let j = c .before .before .before in
+    let b = c .before .before .before .before .before .before in
+    probe-placed _ _ _ _ (start-of (head-of b) .pre .0) (block-of b) (rectangle b) (b .before .probe .result) (b .before .probe .ensures) _ (j .if3 .two)
+    (wide-at _ _ (block-of b) (j .if3 .two) (two-wide j))
+
+survives-requires : tie.Need-survives-requires Inv-loop μ-loop
+survives-requires c κs = search needs
+
+asks-requires : tie.Need-asks-requires Inv-loop μ-loop
+asks-requires c κs = search needs
+
+same-row-requires : tie.Need-same-row-requires Inv-loop μ-loop
+same-row-requires c κs = search needs
+
+build-requires-2 : tie.Need-build-requires-2 Inv-loop μ-loop
+build-requires-2 c κs =
+    let b = c .before .before .before .before .before .before .before in
+    let t = start-of (head-of b) .pre .0 in
+    record {
+      sheet = ready-sheet _ _ _ _ t;
+      on = subst (λ (x : Cell). x .row .0 < start-of (head-of b) .args .grid .height) (sym (b .before .probe .ensures)) (probe-row _ _ _ _ t (block-of b) (rectangle b));
+    }
+
+circle-population-requires-3 : tie.Need-circle-population-requires-3 Inv-loop μ-loop
+circle-population-requires-3 c κs =
+    let j = c .before .before .before in
+    let b = c .before .before .before .before .before .before .before .before .before .before in
+    probe-placed _ _ _ _ (start-of (head-of b) .pre .0) (block-of b) (rectangle b) (b .before .probe .result) (b .before .probe .ensures) _ (j .if5 .exact) (exact-is j)
+
+examined-requires : tie.Need-examined-requires Inv-loop μ-loop
+examined-requires c κs =
+    let b = c .before .before .before .before in
+    let st = start-of (head-of b) in
+    let l = head-of b .loop in
+    subst (CanCount (l .work)) (sym (b .before .before .from-word .ensures))
+    (sweep-counts _ _ _ _ _ _ _ _ _ _ _ (st .pre .0) (st .pre .1 .0) (st .pre .1 .1) (l .far) (l .work) (l .at) (l .i) (l .inv .0) (b .before .before .before .before .loop-test .taken))
 
 write-children-requires : tie.Need-write-children-requires Inv-loop μ-loop
 write-children-requires c κs =
-    let st = c .before .before .before .before .before .before .before .before .before .before .before .before .before .before .before .before in
-    let l = c .before .before .before .before .before .before .before .before .loop in
-    rw (c .before .before .before .before .before .from-word .ensures)
-    (sweep-room _ _ _ _ _ _ _ _ _ _ _ (st .pre .0) (st .pre .1 .0) (st .pre .1 .1)
-    (l .far) (l .work) (l .at) (l .i) (l .inv .0) (c .before .before .before .before .before .before .before .loop-test .taken))
+    let b = c .before .before .before .before .before .before in
+    let st = start-of (head-of b) in
+    let l = head-of b .loop in
+    subst (λ (x : Block). CanSplit x (l .far) (l .at)) (sym (b .before .before .from-word .ensures))
+    (sweep-room _ _ _ _ _ _ _ _ _ _ _ (st .pre .0) (st .pre .1 .0) (st .pre .1 .1) (l .far) (l .work) (l .at) (l .i) (l .inv .0) (b .before .before .before .before .loop-test .taken))
 
 add-i : tie.Need-add-i Inv-loop μ-loop
 add-i c =
-    let fits = c .before .before .before .before .before .before .before .before .before .before .before .before .before .before .before .before .before .before .before .fits in
-    let loop-test = c .before .before .before .before .before .before .before .before .before .before .loop-test in
-    omega (arith, loop-test .taken, fits .end .fits)
+    let b = c .before .before .before .before .before .before .before .before .before in
+    omega (arith, b .before .before .before .before .loop-test .taken, start-of (head-of b) .fits .end .fits)
 
 loop-less : tie.Need-loop-less Inv-loop μ-loop
 loop-less c = search needs
 
 loop-again : tie.Need-loop-again Inv-loop μ-loop
 loop-again c =
-    let loop-test = c .before .before .before .before .before .before .before .before .before .before .loop-test in
-    let examine = c .before .before .before .before .before .before .examine in
-    let write-children = c .before .before .write-children in
-    let st = c .before .before .before .before .before .before .before .before .before .before .before .before .before .before .before .before .before .before .before in
-    let l = c .before .before .before .before .before .before .before .before .before .before .before .loop in
-    let b = c .before .before .before .before .before .before .before .before .from-word .ensures in
-    let s = l .inv .0 in
-    let kernel = c .before .before .before .before .spare-after in (
-      sweep-next _ _ _ _ _ _ _ _ _ _ _ (st .pre .0) (st .pre .1 .0) (st .pre .1 .1)
-          (l .far) (l .work) (l .at) (l .i) s (loop-test .taken) (examine .result) (rw b at (examine .ensures)) _ (write-children .result)
-          (rw b at (write-children .ensures)),
-      spare-own _ _ (l .spare) (l .work .wide) (examine .result .work .wide) (kernel .result) (kernel .ensures) (l .inv .1) (s .kernels .wide),
+    let e = c .before .before .before .before in
+    let b = c .before .before .before .before .before .before .before .before .before in
+    let st = start-of (head-of b) in
+    let l = head-of b .loop in
+    let s = e .before .before .before .survives .result in
+    let word = b .before .before .from-word .ensures in
+    let wrote = c .before .before .write-children in (
+      sweep-next _ _ _ _ _ _ _ _ _ _ _ (st .pre .0) (st .pre .1 .0) (st .pre .1 .1) (l .far) (l .work) (l .at) (l .i) (l .inv .0)
+          (b .before .before .before .before .loop-test .taken) (e .examined .result) s
+          (subst (λ (x : Block). (bs : List Block) → workOf (e .examined .result) (cond s (bs ++ x ∷ []) bs) ≡ examine (the-map (head-of b)) (st .args .km) (workOf (l .work) bs) x) word (seen e)) _ (wrote .result)
+          (rw word at (wrote .ensures)),
+      exact-after (e .before),
+      one-after (c .before .before .before .before .before .before .before .before),
+      two-after (c .before .before .before .before .before .before .before .before),
     )
+
+result-of-requires : tie.Need-result-of-requires Inv-loop μ-loop
+result-of-requires c κs = search needs
 
 same-length : tie.Need-same-length Inv-loop μ-loop
 same-length c = search needs
 
 returns : tie.Need-returns Inv-loop μ-loop
 returns c =
-    let st = c .before .before .before .before .before .before .before .before .before .before in
-    let a = st .args in
+    let st = start-of (c .before .before) in
     let l = c .before .before .loop in
-    let w = c .before .before .before .before .started .result in
-    subst (λ (h : Held). Swept (chunk (mapOf (a .grid) (now (a .angles)) (now (a .cosines)) (now (a .sums))) (a .km) h
-    (blocksFrom (a .start) (a .end) (now (a .near)))) (now (a .far)) (a .live) (l .far)
+    let started = c .before .before .before .started in
+    let a = st .args in
+    let done =
+    subst (λ (x : Held). Swept (chunk (the-map (c .before .before)) (a .km) x (blocksFrom (a .start) (a .end) (now (a .near)))) (now (a .far)) (a .live) (l .far)
     (record { held = l .work .held; tally = l .work .tally; live = l .at }))
-    (start-held _ _ _ (a .best) w (c .before .before .before .before .started .ensures))
-    (sweep-done _ _ _ _ _ _ _ _ _ _ _ (st .pre .0) (st .pre .1 .0) (st .pre .1 .1)
-    (l .far) (l .work) (l .at) (l .i) (l .inv .0) (c .before .loop-test .left))
+    (start-held _ _ _ (started .result) (started .ensures))
+    (sweep-done _ _ _ _ _ _ _ _ _ _ _ (st .pre .0) (st .pre .1 .0) (st .pre .1 .1) (l .far) (l .work) (l .at) (l .i) (l .inv .0) (c .before .loop-test .left)) in
+    rw (c .result-of .ensures) done
 
 pub chunk-spec : {M : Type 1} → statement M
 chunk-spec =
@@ -116,16 +363,31 @@ chunk-spec =
     (tie.spec
     Inv-loop
     μ-loop
+    build-requires
+    no-shape-requires
     started-requires
     loop-holds
     mul-from-word
     shared-slice-read-from-word
     from-word-requires
-    examine-requires
-    spare-after-requires
+    probe-requires
+    odd-columns-requires
+    same-shape-requires
+    wide-kernel-requires
+    circle-population-requires
+    same-shape-requires-2
+    wide-kernel-requires-2
+    circle-population-requires-2
+    survives-requires
+    asks-requires
+    same-row-requires
+    build-requires-2
+    circle-population-requires-3
+    examined-requires
     write-children-requires
     add-i
     loop-less
     loop-again
+    result-of-requires
     same-length
     returns)

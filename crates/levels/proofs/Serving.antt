@@ -1,0 +1,64 @@
+-- Kernels at hand: which blocks a wide one serves, and what of it is the block's.
+use mathlib.Core.Path.{_≡_, refl, sym, ap, subst, _∙_}
+use mathlib.Core.Bool.{true}
+use mathlib.Core.List.{List}
+use native.Mathlib.Omega.{arith}
+use lib.Ieee.{Float}
+use Rattle.grid.specs.declared.Row.{Row}
+use Rattle.grid.specs.declared.Grid.{Grid}
+use Rattle.grid.specs.Map.{Globe}
+use Rattle.kernel.specs.declared.Kernel.{Kernel}
+use Rattle.kernel.specs.Kernel.{kernelOf, globeOf, sheetOf}
+use Rattle.blocks.specs.declared.Block.{Block}
+use Rattle.blocks.specs.Block.{probe, sameShape, Rectangle}
+use Rattle.blocks.proofs.Shapes.{row-path, shape-north, shape-south}
+use Rattle.bounds.specs.Bound.{wideKm, wideKernel}
+use Rattle.bounds.proofs.Shaped.{same-wide-kernel}
+use Rattle.levels.specs.Work.{KernelAt, Serves, noShape}
+
+-- ---- kernels of a row and a radius
+
+kernel-row : (s : Globe) (row : Row) (km : Float) → kernelOf s row km .row ≡ row
+unfolding kernelOf
+kernel-row s row km = refl
+
+kernel-km : (s : Globe) (row : Row) (km : Float) → kernelOf s row km .km ≡ km
+unfolding kernelOf
+kernel-km s row km = refl
+
+pub kernel-at : (g : Grid) (angles : List Float) (row : Row) (km : Float) (k : Kernel) → k ≡ kernelOf (sheetOf g angles) row km → KernelAt g angles km k
+kernel-at g angles row km k e =
+    let s = sheetOf g angles in
+    e ∙ ap (λ (r : Row). kernelOf s r km) (sym (ap (λ (x : Kernel). x .row) e ∙ kernel-row s row km))
+
+-- a kernel that is kept for a row is the kernel of that row
+pub kernel-kept : (g : Grid) (angles : List Float) (row : Row) (km : Float) (k : Kernel) → KernelAt g angles km k → k .row .0 ≡ row .0
+    → k ≡ kernelOf (sheetOf g angles) row km
+kernel-kept g angles row km k own e = own ∙ ap (λ (r : Row). kernelOf (sheetOf g angles) r km) (row-path e)
+
+-- ---- wide kernels
+
+module _ (s : Globe) (km : Float) (b : Block) (k : Kernel) (is : k ≡ wideKernel s km b) where
+  pub wide-at : k ≡ kernelOf (sheetOf (s .grid) (s .angles)) (probe b .row) (wideKm s km b)
+  unfolding wideKernel
+  wide-at = is
+
+  pub wide-radius : k .km ≡ wideKm s km b
+  wide-radius = ap (λ (x : Kernel). x .km) wide-at ∙ kernel-km (sheetOf (s .grid) (s .angles)) (probe b .row) (wideKm s km b)
+
+module _ (g : Grid) (angles cosines : List Float) (km : Float) where
+  -- any kernel serves the shape of no block
+  pub serves-none : (shape : Block) → shape ≡ noShape → (k : Kernel) → Serves g angles cosines km shape k
+  unfolding noShape
+  serves-none shape s k b r e =
+      let q = subst (λ (x : Block). sameShape x b ≡ true) s e in
+      absurd (omega (arith, ap (λ (x : Row). x .0) (shape-north noShape b q), ap (λ (x : Row). x .0) (shape-south noShape b q), r .rows))
+
+  -- a block's wide kernel serves its shape
+  pub serves-own : (shape b : Block) (k : Kernel) → shape ≡ b → k ≡ wideKernel (globeOf g angles cosines) km b → Serves g angles cosines km shape k
+  serves-own shape b k s is x r e =
+      is ∙ same-wide-kernel (globeOf g angles cosines) km b x (subst (λ (y : Block). sameShape y x ≡ true) s e) (r .columns)
+
+  -- what is kept serves as before
+  pub serves-still : (shape shape′ : Block) (k k′ : Kernel) → shape′ ≡ shape → k′ ≡ k → Serves g angles cosines km shape k → Serves g angles cosines km shape′ k′
+  serves-still shape shape′ k k′ s is served x r e = is ∙ served x r (subst (λ (y : Block). sameShape y x ≡ true) s e)

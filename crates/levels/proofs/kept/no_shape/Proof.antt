@@ -1,0 +1,12 @@
+-- `levels::kept::no_shape`: the definition opened.
+use mathlib.Core.Path.{refl}
+use Rattle.levels.specs.Work.{noShape}
+use Rattle.levels.proofs.kept.no_shape.Statement.{statement}
+use Rattle.levels.proofs.kept.no_shape.Tie as tie
+
+returns : tie.Need-returns
+unfolding noShape
+returns c = refl
+
+pub no-shape-spec : {M : Type 1} → statement M
+no-shape-spec = tie.close (tie.spec returns)
