@@ -1,70 +1,49 @@
 //! The Rust original and this module in one process, asked the same of the same maps and sheets: their answers are held equal in
-//! every field, and the times of both are printed as Markdown tables. bench/run builds and runs it.
+//! every field, and the times of both are printed as Markdown tables. bench/run builds and runs it; bench/count and bench/beside ask it
+//! for single calls of the module (`calls.rs`).
+
+mod calls;
+mod maps;
 
 // The comparison uses more of it.
 #[allow(dead_code)]
 #[path = "../oracle/src/module.rs"]
 mod module;
 
+use std::env;
 use std::fmt::Debug;
 use std::fs;
 use std::hint::black_box;
+use std::process::ExitCode;
 use std::time::{Duration, Instant};
 
+use maps::{SIZES, Spread, globe};
 use module::{Module, entries_of, jadurphen::Ledger};
 use oracle::api::{Map, Oracle, Sheet};
-use oracle::maps::Rng;
 
-const SIZES: [(u32, u32); 3] = [(24, 12), (90, 45), (180, 90)];
+/// Of single circles.
+const CIRCLES: [u32; 2] = [200, 10_000];
 const RADII: [u32; 4] = [200, 2_000, 10_000, 20_016];
+/// Beside the automatic one. With 1 every block is a cell, so that a search is a scan of all cells.
+const SPACINGS: [u32; 5] = [1, 2, 4, 8, 16];
 const SHARES: [f64; 3] = [0.05, 0.5, 1.0];
-const SEED: u64 = 7;
 
-/// How people are spread over the cells.
+/// How often a call is timed: `fewest` times, and more while they take no longer than `within`.
 #[derive(Clone, Copy)]
-enum Spread {
-    /// Every order of magnitude as likely.
-    HeavyTailed,
-    Uniform,
-    Equal,
+struct Rounds {
+    fewest: u32,
+    most: u32,
+    within: Duration,
 }
 
-impl Spread {
-    const ALL: [Self; 3] = [Self::HeavyTailed, Self::Uniform, Self::Equal];
-
-    fn name(self) -> &'static str {
-        match self {
-            Self::HeavyTailed => "heavy-tailed",
-            Self::Uniform => "uniform",
-            Self::Equal => "equal",
-        }
-    }
-
-    fn counts(self, cells: u32) -> Vec<u32> {
-        let mut rng = Rng::new(SEED);
-        let mut count = || match self {
-            Self::HeavyTailed => rng.next() as u32 >> rng.range(0, 31),
-            Self::Uniform => rng.range(0, 1_000_000),
-            Self::Equal => 1_000,
-        };
-        (0..cells).map(|_| count()).collect()
-    }
-}
-
-/// A map of the whole globe.
-fn globe(width: u32, height: u32, spread: Spread) -> Map {
-    Map {
-        width,
-        height,
-        origin_lat: 90.0,
-        lon_step: 360.0 / f64::from(width),
-        lat_step: -180.0 / f64::from(height),
-        counts: spread.counts(width * height),
-    }
-}
+const MANY: Rounds = Rounds {
+    fewest: 5,
+    most: 50,
+    within: Duration::from_millis(200),
+};
 
 /// The least time of a call. Short calls are timed many at once, so that the clock's own time does not count.
-fn least<T>(mut call: impl FnMut() -> T) -> f64 {
+fn least<T>(rounds: Rounds, mut call: impl FnMut() -> T) -> f64 {
     let mut time = |calls: u32| {
         let start = Instant::now();
         for _ in 0..calls {
@@ -74,12 +53,12 @@ fn least<T>(mut call: impl FnMut() -> T) -> f64 {
     };
     let once = time(1).max(Duration::from_nanos(20));
     let calls = (Duration::from_millis(2).as_nanos() / once.as_nanos()).clamp(1, 20_000) as u32;
-    let (mut best, mut spent, mut rounds) = (f64::INFINITY, Duration::ZERO, 0);
-    while rounds < 5 || (rounds < 50 && spent < Duration::from_millis(200)) {
+    let (mut best, mut spent, mut done) = (f64::INFINITY, Duration::ZERO, 0);
+    while done < rounds.fewest || (done < rounds.most && spent < rounds.within) {
         let taken = time(calls);
         best = best.min(taken.as_secs_f64() / f64::from(calls));
         spent += taken;
-        rounds += 1;
+        done += 1;
     }
     best
 }
@@ -129,8 +108,8 @@ impl Before {
         let (mut answered, mut judged) = (f64::INFINITY, f64::INFINITY);
         // In turn, since the one is subtracted from the other.
         for _ in 0..5 {
-            answered = answered.min(least(|| module.search(0, 0)));
-            judged = judged.min(least(|| short.search(0, 0)));
+            answered = answered.min(least(MANY, || module.search(0, 0)));
+            judged = judged.min(least(MANY, || short.search(0, 0)));
         }
         Self {
             judged,
@@ -157,7 +136,7 @@ impl Size {
         let maps: Vec<_> = Spread::ALL
             .iter()
             .map(|&spread| {
-                let map = globe(width, height, spread);
+                let map = globe((width, height), spread);
                 let oracle = Oracle::new(&map);
                 (spread, map, oracle)
             })
@@ -195,16 +174,16 @@ fn circles(sizes: &[Size]) {
         let (_, map, oracle) = &size.maps[0];
         let mut module = Module::new(map, &size.sheet);
         let (row, col) = (map.height / 2, map.width / 2);
-        for km in [200, 10_000] {
+        for km in CIRCLES {
             let call = format!("{}, {km} km", size.name);
             equal(
                 &call,
                 Ok(oracle.circle(km, row, col)),
                 module.circle(km, row, col),
             );
-            let theirs = least(|| oracle.circle(km, row, col));
-            let table = least(|| Oracle::new(map).circle(km, row, col));
-            let ours = least(|| module.circle(km, row, col));
+            let theirs = least(MANY, || oracle.circle(km, row, col));
+            let table = least(MANY, || Oracle::new(map).circle(km, row, col));
+            let ours = least(MANY, || module.circle(km, row, col));
             println!(
                 "| {call} | {} | {} | {} | {} |",
                 shown(theirs),
@@ -228,8 +207,8 @@ fn searches(sizes: &[Size]) {
                     Ok(oracle.most_populous(0, km)),
                     module.search(0, km).map(|found| found.most),
                 );
-                let theirs = least(|| oracle.most_populous(0, km));
-                let ours = least(|| module.search(0, km));
+                let theirs = least(MANY, || oracle.most_populous(0, km));
+                let ours = least(MANY, || module.search(0, km));
                 println!(
                     "| {call} | {} | {} | {} | {} |",
                     shown(theirs),
@@ -237,6 +216,31 @@ fn searches(sizes: &[Size]) {
                     ratio(theirs, ours),
                     shown(size.before.rest(ours))
                 );
+            }
+        }
+    }
+}
+
+/// The module's searches with other spacings: the same circle is found.
+fn spacings(sizes: &[Size]) {
+    let heads = SPACINGS.map(|spacing| format!(" {spacing} |")).concat();
+    println!(
+        "\n| search by spacing | automatic |{heads}\n|---|---|{}",
+        "---|".repeat(SPACINGS.len())
+    );
+    for size in sizes {
+        for (spread, map, _) in &size.maps {
+            let mut module = Module::new(map, &size.sheet);
+            for km in RADII {
+                let call = format!("{}, {}, {km} km", size.name, spread.name());
+                let centre = module.search(0, km).map(|found| found.most.centre);
+                let mut cells = vec![shown(least(MANY, || module.search(0, km)))];
+                for spacing in SPACINGS {
+                    let found = module.search(spacing, km).map(|found| found.most.centre);
+                    equal(&format!("{call}, spacing {spacing}"), centre, found);
+                    cells.push(shown(least(MANY, || module.search(spacing, km))));
+                }
+                println!("| {call} | {} |", cells.join(" | "));
             }
         }
     }
@@ -254,10 +258,10 @@ fn smallest(call: &str, oracle: &Oracle, module: &mut Module, share: f64) -> [f6
         );
         equal(&call, entries.clone(), entries_of(&ledger));
     }
-    let warm = least(|| oracle.smallest(0, share, &mut entries));
-    let our_warm = least(|| module.smallest(0, share, &mut ledger));
-    let fresh = least(|| oracle.smallest(0, share, &mut Vec::new()));
-    let our_fresh = least(|| {
+    let warm = least(MANY, || oracle.smallest(0, share, &mut entries));
+    let our_warm = least(MANY, || module.smallest(0, share, &mut ledger));
+    let fresh = least(MANY, || oracle.smallest(0, share, &mut Vec::new()));
+    let our_fresh = least(MANY, || {
         ledger.clear();
         module.smallest(0, share, &mut ledger)
     });
@@ -303,12 +307,32 @@ fn machine() -> String {
     format!("{name}, {cores} cores, load average {}", load.join(" "))
 }
 
-fn main() {
+fn tables() {
     println!("Before: {}.\n", machine());
     let sizes = SIZES.map(Size::new);
     parts(&sizes);
     circles(&sizes);
     searches(&sizes);
+    spacings(&sizes);
     smallest_radii(&sizes);
     println!("\nAfter: {}.", machine());
+}
+
+fn main() -> ExitCode {
+    let arguments: Vec<_> = env::args().skip(1).collect();
+    match arguments.join(" ").as_str() {
+        "" => tables(),
+        "list" => calls::list(),
+        "ask" => {
+            if let Err(trouble) = calls::ask() {
+                eprintln!("bench: {trouble}");
+                return ExitCode::FAILURE;
+            }
+        }
+        _ => {
+            eprintln!("usage: bench [list | ask]");
+            return ExitCode::from(2);
+        }
+    }
+    ExitCode::SUCCESS
 }
