@@ -13,7 +13,7 @@ use Rattle.kernel.proofs.band.circle_population.Tie as tie
 
 abbrev Inv-loop : tie.InvT-loop
 Inv-loop grid sums north end reach run col people₀ row₀ people row =
-    (row₀ ≤ row) × (row ≤ end) × (people ≡ sumBelow row (reachPeople (tableMap grid sums) col reach))
+    (north ≤ row) × (row ≤ end) × (people ≡ sumBelow row (reachPeople (tableMap grid sums) col reach))
 
 abbrev μ-loop : tie.MeasureT-loop
 μ-loop grid sums north end reach run col people₀ row₀ people row = end - row
@@ -58,7 +58,7 @@ loop-holds : tie.Need-loop-holds Inv-loop μ-loop
 loop-holds c =
     let st = c .before in
     let b = st .pre .band in
-    (omega arith, b .end-on, sym (people-north _ (st .args .col) _ b))
+    (omega (arith, b .end-on), omega (arith, b .end-on), sym (people-north _ (st .args .col) _ b))
 
 cast-wide : tie.Need-cast-wide Inv-loop μ-loop
 cast-wide c = search needs
