@@ -36,27 +36,3 @@ module _ (g : Grid) (centre row : Row) (offset : ℕ) (i : InSheet g centre row 
       let one : (centre .0 * g .height + row .0) * 1 ≤ (centre .0 * g .height + row .0) * (g .width / 2 + 1) =
       mul-le-mul-left (centre .0 * g .height + row .0) (omega arith) in
       (omega (arith, small, one, place-in), omega (arith, small, place-in), omega (arith, small, place-in))
-
--- a place in the sheet is a place among its angles
-pub place-of : (g : Grid) (angles : List Float) (centre row : Row) (offset : ℕ) → EveryAngle g angles → InSheet g centre row offset
-    → (sheetIndex g centre row offset < length angles) × (sheetIndex g centre row offset < 737100)
-unfolding closing
-place-of g angles centre row offset every i =
-    let inside = place-in g centre row offset i in
-    (rw (every .size) inside, omega (arith, inside, sheet-small (g .width) (g .height) (i .wide) (i .high)))
-
-pub place-by : (g : Grid) (angles : List Float) (centre row : Row) (offset : ℕ) → EveryAngle g angles → centre .0 < g .height → row .0 < g .height
-    → offset ≤ closing g → InSheet g centre row offset
-place-by g angles centre row offset every c r k = record { wide = every .wide; high = every .high; centre-on = c; row-on = r; offset-on = k }
-
--- the places of a pair of rows follow one another
-pub place-at : (g : Grid) (c r : Row) (k : ℕ) → sheetIndex g c r k ≡ sheetIndex g c r 0 + k
-unfolding sheetIndex
-place-at g c r k = omega arith
-
--- the last angle of a pair of rows
-pub last-of-pair : (g : Grid) (angles : List Float) (centre row : Row) (at last : ℕ) → EveryAngle g angles → centre .0 < g .height → row .0 < g .height
-    → at ≡ sheetIndex g centre row 0 → last ≡ closing g → (at + last < length angles) × (at + last < 737100)
-last-of-pair g angles centre row at last every c r e l =
-    rw (e, l, ← place-at g centre row (closing g))
-    (place-of g angles centre row (closing g) every (place-by g angles centre row (closing g) every c r (omega arith)))

@@ -5,8 +5,9 @@ pub mod CellOrder
 pub mod Distance
 pub mod General
 pub mod Index
-pub mod Judge
+pub mod Judging
 pub mod Literals
 pub mod Passed
+pub mod Runs
 pub mod SheetOrder
 pub mod Sizes

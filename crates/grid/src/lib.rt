@@ -1,4 +1,5 @@
 // Rows, columns, cells and whole-kilometre radii, each a type of its own, and the grid that holds them.
+mod judge;
 mod places;
 mod questions;
 mod sheet;
@@ -17,7 +18,6 @@ pub use questions::latitudes_in_range;
 pub use questions::map_refusal;
 pub use questions::sheet_complete;
 pub use questions::sizes_in_range;
-pub use sheet::angle_at;
 pub use sheet::sheet_in_order;
 ghost use mathlib.Core.Path.{_≡_};
 ghost use Rattle.grid.specs.Grid.{rowFound, colFound, radiusFound, centreLat};
@@ -55,6 +55,18 @@ pub enum ColFound {
 pub enum RadiusFound {
     Within(RadiusKm),
     Beyond,
+}
+
+// A judge of a sheet's angles, fed in the sheet's order: where the next one stands, the angle before it, the latest
+// offset-0 angle, and whether all is well.
+pub struct SheetJudge {
+    grid: Grid,
+    centre: u32,
+    row: u32,
+    offset: u32,
+    before: f64,
+    head: f64,
+    well: bool,
 }
 
 impl RadiusKm {

@@ -3,8 +3,8 @@ use mathlib.Core.Path.{_≡_, refl, sym, ap, _∙_}
 use mathlib.Core.List.{List, [], _∷_, _++_, append-assoc, append-nil}
 use Prim.Native.Nat.{ℕ, zero, suc, _+_, _<_}
 use native.Mathlib.Numerals.{add-one}
-use lib.ListN.{length, take, getD}
-use lib.Seq.{take-suc}
+use lib.ListN.{length, take, drop, getD}
+use lib.Seq.{take-suc, take-add}
 use Rattle.lists.specs.Lists.{fold, each, concatEach}
 
 module _ {A S : Type 0} (f : S → A → S) where
@@ -12,6 +12,14 @@ module _ {A S : Type 0} (f : S → A → S) where
   unfolding fold
   fold-append s [] ys = refl
   fold-append s (x ∷ xs) ys = fold-append (f s x) xs ys
+
+  -- a state that has taken the elements before a place takes some more, or one
+  pub fold-more : (s : S) (xs : List A) (at n : ℕ) → fold f (fold f s (take at xs)) (take n (drop at xs)) ≡ fold f s (take (at + n) xs)
+  fold-more s xs at n = rw (take-add at n xs) (sym (fold-append s (take at xs) (take n (drop at xs))))
+
+  pub fold-next : (s : S) (xs : List A) (i : ℕ) (d : A) → i < length xs → f (fold f s (take i xs)) (getD xs i d) ≡ fold f s (take (i + 1) xs)
+  unfolding fold
+  fold-next s xs i d h = rw (add-one i, take-suc xs i d h) (sym (fold-append s (take i xs) (getD xs i d ∷ [])))
 
 module _ {A B : Type 0} (f : A → B) where
   pub length-each : (xs : List A) → length (each f xs) ≡ length xs
