@@ -4,6 +4,7 @@
 use std::collections::BTreeSet;
 
 use crate::api::{Centre, Entry, Map, Oracle, Sheet};
+use crate::reading::sheet_passes;
 
 pub const EARTH_RADIUS_KM: f64 = 6371.0088;
 pub const CEILING_KM: u32 = 20_016;
@@ -76,19 +77,7 @@ pub fn cosines_accepted(sheet: &Sheet) -> bool {
 
 /// Question 6: whether the sheet is one that a call accepts.
 pub fn sheet_accepted(map: &Map, sheet: &Sheet) -> bool {
-    let (height, places) = (map.height as usize, map.closing() as usize + 1);
-    let row = |c: usize, r: usize| &sheet.angles[(c * height + r) * places..][..places];
-    cosines_accepted(sheet)
-        && sheet
-            .angles
-            .iter()
-            .all(|&x| (0.0..=std::f64::consts::PI).contains(&x))
-        && (0..height).all(|c| row(c, c)[0] == 0.0)
-        && (0..height).all(|c| (0..height).all(|r| row(c, r).is_sorted()))
-        && (0..height).all(|c| {
-            (0..c).all(|r| row(c, r + 1)[0] <= row(c, r)[0])
-                && (c + 1..height).all(|r| row(c, r - 1)[0] <= row(c, r)[0])
-        })
+    cosines_accepted(sheet) && sheet_passes(map.width, map.height, &sheet.angles)
 }
 
 /// Whether a cell is in a circle, by the sheet alone. The radius may be a widened one.

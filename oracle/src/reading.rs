@@ -1,7 +1,8 @@
 //! A second reading of the specification, plain and slow: the search and the smallest radius by the
 //! sheet alone, every circle added up cell by cell. It is held against the original in every field,
 //! so that a place where the two part is found here and not in the port. It also counts what the
-//! original does not report: cells pruned and cells settled.
+//! original does not report: cells pruned and cells settled. Question 6 of a sheet's angles is read
+//! here too, for the maps and for `oracle/sheets`.
 
 use crate::api::{Centre, Entry, Least, Map, Most, Sheet};
 use crate::maps::{CEILING_KM, EARTH_RADIUS_KM, population};
@@ -9,6 +10,30 @@ use crate::search::SearchStats;
 
 const RADIANS: f64 = 0.017453292519943295;
 const MARGIN: f64 = 1.0 + 32.0 * f64::EPSILON;
+
+/// Question 6 of the angles, on as many places of a sheet as are given, from the first on; what is
+/// given behind its last place is not looked at. Every two places that the question orders are
+/// compared, and not only neighbours.
+pub fn sheet_passes(width: u32, height: u32, angles: &[f64]) -> bool {
+    let (rows, offsets) = (height as usize, width as usize / 2 + 1);
+    let angles = &angles[..angles.len().min(rows * rows * offsets)];
+    let at = |c: usize, r: usize, k: usize| angles.get((c * rows + r) * offsets + k).copied();
+    let not_falling = |near: Option<f64>, far: Option<f64>| match (near, far) {
+        (Some(near), Some(far)) => near <= far,
+        _ => true,
+    };
+    let along = |c: usize, r: usize| {
+        (0..offsets).all(|far| (0..far).all(|near| not_falling(at(c, r, near), at(c, r, far))))
+    };
+    // The rows passed on the way from the centre row to this one.
+    let passed = |c: usize, r: usize| if r < c { r + 1..c + 1 } else { c..r };
+    let away =
+        |c: usize, r: usize| passed(c, r).all(|near| not_falling(at(c, near, 0), at(c, r, 0)));
+    let half_turn = std::f64::consts::PI;
+    angles.iter().all(|x| (0.0..=half_turn).contains(x))
+        && (0..rows).all(|c| at(c, c, 0).is_none_or(|own| own == 0.0))
+        && (0..rows).all(|c| (0..rows).all(|r| along(c, r) && away(c, r)))
+}
 
 #[derive(Clone, Copy)]
 struct Block {
