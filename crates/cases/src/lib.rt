@@ -15,6 +15,7 @@ pub use map::none;
 pub use map::set;
 pub use numbers::bits_of;
 pub use numbers::differing;
+pub use numbers::first_floats;
 pub use numbers::first_words;
 pub use numbers::float_at;
 pub use numbers::put_word;

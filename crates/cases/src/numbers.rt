@@ -58,7 +58,7 @@ pub(crate) fn first_shorts<'a>(shorts: &'a [u32], n: usize) -> &'a [u32] {
     shorts
 }
 
-pub(crate) fn first_floats<'a>(floats: &'a [f64], n: usize) -> &'a [f64] {
+pub fn first_floats<'a>(floats: &'a [f64], n: usize) -> &'a [f64] {
     if n < floats.len() {
         return &floats[0..n];
     }

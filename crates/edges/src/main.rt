@@ -1,5 +1,6 @@
 // The edges of the calls, played through: cases.txt names each case, sets what it is asked on, and asks. README.md has the
 // format of the list, and what a printed line says.
+mod judge;
 mod ledgers;
 mod play;
 mod print;
@@ -47,7 +48,7 @@ fn line_played(
     cosines: &mut [f64],
     ledger: &mut [u64],
 ) -> Map {
-    let mut numbers = [0u64; 16];
+    let mut numbers = [0u64; 128];
     let read = cases::numbers_of(text, &mut numbers);
     let line = cases::first_words(&numbers, read.count);
     print::name(read.tag, text);

@@ -1,4 +1,5 @@
 // The calls, each with buffers that are full of sevens.
+use crate::judge;
 use crate::ledgers;
 use crate::print;
 use crate::puts;
@@ -127,6 +128,10 @@ pub(crate) fn call(
     }
     if tag == b'P' {
         circle(line, map, counts, angles, cosines);
+        return true;
+    }
+    if tag == b'J' {
+        judge::sheet(line, map, angles);
         return true;
     }
     false
