@@ -4,6 +4,7 @@
 
 mod calls;
 mod maps;
+mod questions;
 
 // The comparison uses more of it.
 #[allow(dead_code)]
@@ -20,6 +21,7 @@ use std::time::{Duration, Instant};
 use maps::{SIZES, Spread, globe};
 use module::{Module, entries_of, jadurphen::Ledger};
 use oracle::api::{Map, Oracle, Sheet};
+use questions::Before;
 
 /// Of single circles.
 const CIRCLES: [u32; 2] = [200, 10_000];
@@ -63,14 +65,18 @@ fn least<T>(rounds: Rounds, mut call: impl FnMut() -> T) -> f64 {
     best
 }
 
+/// Three digits.
 fn shown(seconds: f64) -> String {
     let micros = seconds * 1e6;
-    match micros {
-        ..9.995 => format!("{micros:.2} µs"),
-        ..999.5 => format!("{micros:.0} µs"),
-        ..9995.0 => format!("{:.2} ms", micros / 1e3),
-        ..99950.0 => format!("{:.1} ms", micros / 1e3),
-        _ => format!("{:.0} ms", micros / 1e3),
+    let (number, unit) = match micros {
+        ..0.9995 => (micros * 1e3, "ns"),
+        ..999.5 => (micros, "µs"),
+        _ => (micros / 1e3, "ms"),
+    };
+    match number {
+        ..9.995 => format!("{number:.2} {unit}"),
+        ..99.95 => format!("{number:.1} {unit}"),
+        _ => format!("{number:.0} {unit}"),
     }
 }
 
@@ -91,38 +97,6 @@ fn equal<T: PartialEq + Debug>(call: &str, theirs: T, ours: T) {
     );
 }
 
-/// What every call of a map spends before its own work.
-#[derive(Clone, Copy)]
-struct Before {
-    judged: f64,
-    summed: f64,
-}
-
-impl Before {
-    /// A sums buffer one word short is question 7: refused when questions 1 to 6 are answered. A search at 0 km only fills the sums.
-    fn measured(map: &Map, sheet: &Sheet) -> Self {
-        let mut module = Module::new(map, sheet);
-        let mut short = Module::new(map, sheet);
-        short.lent.sums.pop();
-        equal("a word short", Err(7), short.search(0, 0).map(|_| ()));
-        let (mut answered, mut judged) = (f64::INFINITY, f64::INFINITY);
-        // In turn, since the one is subtracted from the other.
-        for _ in 0..5 {
-            answered = answered.min(least(MANY, || module.search(0, 0)));
-            judged = judged.min(least(MANY, || short.search(0, 0)));
-        }
-        Self {
-            judged,
-            summed: (answered - judged).max(0.0),
-        }
-    }
-
-    /// The rest of a call.
-    fn rest(self, call: f64) -> f64 {
-        (call - self.judged - self.summed).max(0.0)
-    }
-}
-
 /// A size of map with its sheet, which the spread of the people does not change.
 struct Size {
     name: String,
@@ -141,28 +115,14 @@ impl Size {
                 (spread, map, oracle)
             })
             .collect();
-        let sheet = maps[0].2.sheet();
-        let before = Before::measured(&maps[0].1, &sheet);
+        let mut sheet = maps[0].2.sheet();
+        let before = Before::measured(&maps[0].1, &mut sheet);
         Self {
             name: format!("{width} × {height}"),
             maps,
             sheet,
             before,
         }
-    }
-}
-
-fn parts(sizes: &[Size]) {
-    println!("| size | angles | questions 1 to 6 | sums filled |\n|---|---|---|---|");
-    for size in sizes {
-        let Before { judged, summed } = size.before;
-        let angles = size.sheet.angles.len();
-        println!(
-            "| {} | {angles} | {} | {} |",
-            size.name,
-            shown(judged),
-            shown(summed)
-        );
     }
 }
 
@@ -310,7 +270,8 @@ fn machine() -> String {
 fn tables() {
     println!("Before: {}.\n", machine());
     let sizes = SIZES.map(Size::new);
-    parts(&sizes);
+    questions::parts(&sizes);
+    questions::passes(&sizes);
     circles(&sizes);
     searches(&sizes);
     spacings(&sizes);

@@ -15,6 +15,7 @@ use oracle::api::{Centre, Entry, Map, Oracle, Sheet};
 
 use crate::maps::{SIZES, Spread, globe};
 use crate::module::{Module, entries_of, jadurphen::Ledger};
+use crate::questions::{Spoilt, refused, shorten, spoiling};
 use crate::{CIRCLES, RADII, Rounds, SHARES, least, machine};
 
 /// A turn is short, since two programs take turns.
@@ -26,8 +27,8 @@ const TURN: Rounds = Rounds {
 
 #[derive(Clone, Copy)]
 enum Call {
-    /// Refused by question 7, when questions 1 to 6 are answered.
-    Questions,
+    /// Questions 1 to 6, refused by the last of them where an angle is spoilt.
+    Questions(Option<Spoilt>),
     /// Of so many kilometres around the middle cell.
     Circle(u32),
     /// Of so many kilometres, with that spacing; 0 is automatic.
@@ -43,7 +44,11 @@ enum Call {
 impl Call {
     fn named(words: &[&str]) -> Option<Self> {
         Some(match words {
-            ["questions"] => Self::Questions,
+            ["questions"] => Self::Questions(None),
+            ["questions", spoilt] => {
+                let named = |one: &Spoilt| one.name() == *spoilt;
+                Self::Questions(Some(Spoilt::ALL.into_iter().find(named)?))
+            }
             ["circle", km] => Self::Circle(km.parse().ok()?),
             ["search", km] => Self::Search(km.parse().ok()?, 0),
             ["search", km, spacing] => Self::Search(km.parse().ok()?, spacing.parse().ok()?),
@@ -52,6 +57,13 @@ impl Call {
             ["put"] => Self::Put,
             _ => return None,
         })
+    }
+
+    fn spoilt(self) -> Option<Spoilt> {
+        match self {
+            Self::Questions(spoilt) => spoilt,
+            _ => None,
+        }
     }
 }
 
@@ -62,8 +74,10 @@ pub fn list() {
     }
     let all = &Spread::ALL[..];
     let any = &all[..1];
+    let mut questions = vec!["questions".to_string()];
+    questions.extend(each("questions", &Spoilt::ALL.map(Spoilt::name)));
     let calls = [
-        (vec!["questions".to_string()], any),
+        (questions, any),
         (each("circle", &CIRCLES), any),
         (each("search", &RADII), all),
         (each("smallest", &SHARES), all),
@@ -128,22 +142,15 @@ fn hash(words: &[u64]) -> u64 {
     hasher.finish()
 }
 
-impl Made {
-    fn answer(&mut self, turn: Turn, size: (u32, u32), spread: Spread, call: Call) -> String {
-        let World { map, ledgers } = self.worlds.entry((size, spread)).or_insert_with(|| World {
-            map: globe(size, spread),
-            ledgers: BTreeMap::new(),
-        });
-        let sheet = self
-            .sheets
-            .entry(size)
-            .or_insert_with(|| Oracle::new(map).sheet());
+impl World {
+    fn answer(&mut self, turn: Turn, call: Call, sheet: &Sheet) -> String {
+        let Self { map, ledgers } = self;
         let mut module = Module::new(map, sheet);
         let mut ledger = Ledger::default();
         let made = match call {
-            Call::Questions => {
-                module.lent.sums.pop();
-                turn.made(|| module.search(0, 0))
+            Call::Questions(spoilt) => {
+                shorten(&mut module);
+                turn.made(|| refused(&mut module, spoilt))
             }
             Call::Circle(km) => {
                 let (row, col) = (map.height / 2, map.width / 2);
@@ -180,6 +187,22 @@ impl Made {
             }
             Turn::Time => made,
         }
+    }
+}
+
+impl Made {
+    fn answer(&mut self, turn: Turn, size: (u32, u32), spread: Spread, call: Call) -> String {
+        let world = self.worlds.entry((size, spread)).or_insert_with(|| World {
+            map: globe(size, spread),
+            ledgers: BTreeMap::new(),
+        });
+        let sheet = self
+            .sheets
+            .entry(size)
+            .or_insert_with(|| Oracle::new(&world.map).sheet());
+        spoiling(sheet, call.spoilt(), |sheet| {
+            world.answer(turn, call, sheet)
+        })
     }
 
     fn asked(&mut self, line: &str) -> Option<String> {

@@ -18,6 +18,7 @@ FUNCTIONS = {
     "questions": "jadurphen_search", "circle": "jadurphen_circle", "search": "jadurphen_search", "smallest": "jadurphen_smallest",
     "again": "jadurphen_smallest", "put": "jadurphen_put",
 }
+WHICH = {"questions": "refused at the {} angle", "smallest": "share {}", "again": "share {}"}
 # Bytes that memcpy moves with `rep movsb` would count as an instruction each.
 PLAIN = {"GLIBC_TUNABLES": "glibc.cpu.hwcaps=-ERMS"}
 PART = re.compile(r"^desc: Trigger: (.*)$|^totals: ([0-9]+)$", re.MULTILINE)
@@ -52,8 +53,8 @@ def folder():
 
 # ---- calls
 
-class Call(collections.namedtuple("Call", "size spread kind number")):
-    """A call as `bench list` names it; the number is a radius or a share, or nothing."""
+class Call(collections.namedtuple("Call", "size spread kind which")):
+    """A call as `bench list` names it: which is a radius, a share or the spoilt angle of the sheet, or nothing."""
 
     @classmethod
     def of(cls, line):
@@ -66,8 +67,8 @@ class Call(collections.namedtuple("Call", "size spread kind number")):
         words = [KINDS[self.kind], self.size.replace("x", " × ")]
         if self.kind in ("search", "smallest", "again"):
             words.append(self.spread)
-        if self.number:
-            words.append(f"share {self.number}" if self.kind in ("smallest", "again") else f"{self.number} km")
+        if self.which:
+            words.append(WHICH.get(self.kind, "{} km").format(self.which))
         return ", ".join(words)
 
 
