@@ -1,4 +1,6 @@
 // What a listed number stands for: a float, a 32-bit number, a place; and words that differ.
+ghost use mathlib.Core.Path.{_≡_};
+ghost use lib.ListN.{take};
 
 // The bits of a float that is not a number, of which the module makes no other.
 const NAN: u64 = 0x7ff8000000000000;
@@ -58,7 +60,9 @@ pub(crate) fn first_shorts<'a>(shorts: &'a [u32], n: usize) -> &'a [u32] {
     shorts
 }
 
-pub fn first_floats<'a>(floats: &'a [f64], n: usize) -> &'a [f64] {
+pub fn first_floats<'a>(floats: &'a [f64], n: usize) -> &'a [f64]
+    ensures { λ r. ⌜ now r ≡ take n (now (floats .entry)) ⌝ }
+{
     if n < floats.len() {
         return &floats[0..n];
     }

@@ -7,7 +7,8 @@ ghost use Prim.Native.Nat.{_<_};
 ghost use lib.ListN.{length};
 ghost use lib.Ieee.{le};
 ghost use Rattle.lists.specs.Lists.{fold};
-ghost use Rattle.grid.specs.Sheet.{EveryAngle, judgeStart, ownFits, rowFits, headFits, angleFits, headAfter, nextRow, nextPlace, judgeFeed, judged, notFalling, runFits, runAhead, NextRun};
+ghost use Rattle.grid.specs.Sheet.{judgeStart, ownFits, rowFits, headFits, angleFits, headAfter, nextRow, nextPlace, judgeFeed, judged};
+ghost use Rattle.grid.specs.Sheet.{EveryAngle, notFalling, runFits, runAhead, NextRun};
 
 fn at_most(x: f64, y: f64) -> bool
     ensures { λ r. ⌜ r ≡ le x y ⌝ }
@@ -220,7 +221,7 @@ impl SheetJudge {
 }
 
 // What the judge says of a whole sheet. After a run that does not fit no angle is read.
-pub fn angles_in_order(grid: Grid, angles: &[f64]) -> bool
+pub(crate) fn angles_in_order(grid: Grid, angles: &[f64]) -> bool
     requires { ⌜ EveryAngle grid (now angles) ⌝ }
     ensures { λ r. ⌜ r ≡ judged grid (now (angles .entry)) ⌝ }
 {
