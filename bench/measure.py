@@ -9,7 +9,7 @@ import sys
 import tempfile
 
 HERE = os.path.dirname(os.path.abspath(__file__))
-OWN = "target/staticlib/libcapi.a"
+OWN = "target/staticlib/libjadurphen.a"
 KINDS = {
     "questions": "questions 1 to 6", "circle": "single circle", "search": "search", "smallest": "smallest radius",
     "again": "smallest radius again", "put": "put",

@@ -1,4 +1,4 @@
-//! Jadurphen's calls from Rust, over the static library that `rt staticlib capi` writes. A studio can take this file as it is.
+//! Jadurphen's calls from Rust, over the static library that `rt staticlib jadurphen` writes. A studio can take this file as it is.
 //!
 //! `include/jadurphen.h` says what each field means; lengths are judged by the calls, so nothing here can fail but by a `Refusal`.
 //! After a refusal everything lent is as it was.
@@ -30,7 +30,7 @@ unsafe extern "C" {
         km: u32,
         row: u32,
         col: u32,
-        people: *mut u64,
+        population: *mut u64,
     ) -> u32;
 
     fn jadurphen_search(
@@ -50,10 +50,10 @@ unsafe extern "C" {
         spacing: u32,
         sums: *mut u64,
         sums_len: usize,
-        near: *mut u64,
-        near_len: usize,
-        far: *mut u64,
-        far_len: usize,
+        current: *mut u64,
+        current_len: usize,
+        following: *mut u64,
+        following_len: usize,
         words: *mut [u64; 10],
         tolerance: *mut f64,
     ) -> u32;
@@ -77,10 +77,10 @@ unsafe extern "C" {
         ledger_len: usize,
         sums: *mut u64,
         sums_len: usize,
-        near: *mut u64,
-        near_len: usize,
-        far: *mut u64,
-        far_len: usize,
+        current: *mut u64,
+        current_len: usize,
+        following: *mut u64,
+        following_len: usize,
         words: *mut [u64; 19],
         floats: *mut [f64; 6],
     ) -> u32;
@@ -205,8 +205,8 @@ impl Sheet {
 #[derive(Debug, Clone)]
 pub struct Buffers {
     pub sums: Vec<u64>,
-    pub near: Vec<u64>,
-    pub far: Vec<u64>,
+    pub current: Vec<u64>,
+    pub following: Vec<u64>,
 }
 
 impl Buffers {
@@ -214,8 +214,8 @@ impl Buffers {
         let sums = (grid.width as usize + 1) * (grid.height as usize + 1);
         Self {
             sums: vec![0; sums],
-            near: vec![0; grid.cells()],
-            far: vec![0; grid.cells()],
+            current: vec![0; grid.cells()],
+            following: vec![0; grid.cells()],
         }
     }
 }
@@ -320,7 +320,7 @@ impl Map<'_> {
     /// The people of a single circle.
     pub fn circle(&self, lent: &mut Buffers, km: u32, row: u32, col: u32) -> Result<u64, Refusal> {
         let grid = self.grid;
-        let mut people = 0;
+        let mut population = 0;
         let number = unsafe {
             jadurphen_circle(
                 grid.width,
@@ -339,10 +339,10 @@ impl Map<'_> {
                 km,
                 row,
                 col,
-                &mut people,
+                &mut population,
             )
         };
-        Refusal::or(number, || people)
+        Refusal::or(number, || population)
     }
 
     /// The most populous circle of a radius.
@@ -374,10 +374,10 @@ impl Map<'_> {
                 cells,
                 lent.sums.as_mut_ptr(),
                 lent.sums.len(),
-                lent.near.as_mut_ptr(),
-                lent.near.len(),
-                lent.far.as_mut_ptr(),
-                lent.far.len(),
+                lent.current.as_mut_ptr(),
+                lent.current.len(),
+                lent.following.as_mut_ptr(),
+                lent.following.len(),
                 &mut words,
                 &mut tolerance_persons,
             )
@@ -423,10 +423,10 @@ impl Map<'_> {
                 ledger.0.len(),
                 lent.sums.as_mut_ptr(),
                 lent.sums.len(),
-                lent.near.as_mut_ptr(),
-                lent.near.len(),
-                lent.far.as_mut_ptr(),
-                lent.far.len(),
+                lent.current.as_mut_ptr(),
+                lent.current.len(),
+                lent.following.as_mut_ptr(),
+                lent.following.len(),
                 &mut words,
                 &mut floats,
             )

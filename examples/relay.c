@@ -25,7 +25,7 @@ struct world {
     uint32_t *counts;
     double *angles, *cosines;
     size_t counts_len, angles_len, cosines_len;
-    uint64_t *sums, *near_level, *far_level;
+    uint64_t *sums, *current, *following;
     size_t sums_len, level_len;
     unsigned cities;
 };
@@ -94,8 +94,8 @@ static struct world world_of(const char *path)
     w.angles = (double *)room(w.angles_len, sizeof *w.angles);
     w.cosines = (double *)room(w.cosines_len, sizeof *w.cosines);
     w.sums = (uint64_t *)room(w.sums_len, sizeof *w.sums);
-    w.near_level = (uint64_t *)room(w.level_len, sizeof *w.near_level);
-    w.far_level = (uint64_t *)room(w.level_len, sizeof *w.far_level);
+    w.current = (uint64_t *)room(w.level_len, sizeof *w.current);
+    w.following = (uint64_t *)room(w.level_len, sizeof *w.following);
     w.cities = 0;
     fill_sheet(&w);
     read_cities(&w, path);
@@ -108,8 +108,8 @@ static void free_world(struct world *w)
     free(w->angles);
     free(w->cosines);
     free(w->sums);
-    free(w->near_level);
-    free(w->far_level);
+    free(w->current);
+    free(w->following);
 }
 
 static uint32_t circle(struct world *w, uint32_t km, uint32_t row, uint32_t col, uint64_t *people)
@@ -124,8 +124,8 @@ static uint32_t search(struct world *w, uint32_t km, uint64_t *words)
     double tolerance;
     return jadurphen_search(
         WIDTH, HEIGHT, ORIGIN_LAT, LON_STEP, LAT_STEP, w->counts, w->counts_len, w->angles, w->angles_len,
-        w->cosines, w->cosines_len, km, true, 0, w->sums, w->sums_len, w->near_level, w->level_len,
-        w->far_level, w->level_len, words, &tolerance);
+        w->cosines, w->cosines_len, km, true, 0, w->sums, w->sums_len, w->current, w->level_len,
+        w->following, w->level_len, words, &tolerance);
 }
 
 static uint32_t smallest(struct world *w, double share, uint64_t *ledger, uint64_t *words, double *floats)
@@ -133,7 +133,7 @@ static uint32_t smallest(struct world *w, double share, uint64_t *ledger, uint64
     return jadurphen_smallest(
         WIDTH, HEIGHT, ORIGIN_LAT, LON_STEP, LAT_STEP, w->counts, w->counts_len, w->angles, w->angles_len,
         w->cosines, w->cosines_len, share, true, 0, ledger, JADURPHEN_LEDGER_WORDS, w->sums, w->sums_len,
-        w->near_level, w->level_len, w->far_level, w->level_len, words, floats);
+        w->current, w->level_len, w->following, w->level_len, words, floats);
 }
 
 /* Ends the program where a call that should be answered is not. */

@@ -1,15 +1,15 @@
-/* Jadurphen's calls for C (C99) and C++ (C++11). The static library that `rt staticlib capi` writes has them:
- * target/staticlib/libcapi.a.
+/* Jadurphen's calls for C (C99) and C++ (C++11). The static library that `rt staticlib jadurphen` writes has them:
+ * target/staticlib/libjadurphen.a.
  *
  * A call puts its questions in order and returns 0, or the number of the first question that is answered no (enum
- * jadurphen_refusal). After a refusal every word lent is as it was, words, floats, people and tolerance included.
+ * jadurphen_refusal). After a refusal every word lent is as it was, words, floats, population and tolerance included.
  * Nothing is kept, allocated, locked or printed: what a call gives depends on its arguments alone, and calls that are
  * lent different memory may run at the same time. The library needs memcpy and memset and no other function. On the
  * stack jadurphen_smallest takes 52 KiB, jadurphen_put 37 KiB and the others less than 5 KiB (measured).
  *
  * Memory. A slice is a pointer and the number of its elements. No pointer is null, not even where the number is 0, and
- * each is aligned for its type. What a call writes to (sums, near, far, ledger, people, words, tolerance, floats)
- * overlaps nothing else that the call is given; counts, angles and cosines are only read.
+ * each is aligned for its type. What a call writes to (sums, current, following, ledger, population, words, tolerance,
+ * floats) overlaps nothing else that the call is given; counts, angles and cosines are only read.
  *
  * Floats. double is IEEE 754's binary64, rounded to nearest, with subnormal numbers (neither flushed to zero nor read
  * as zero, as linking with -ffast-math would set it for the whole program).
@@ -30,7 +30,8 @@
  * Working space that is lent to a call, with any contents:
  *   sums              at least jadurphen_sums_len words. After an answer the word at jadurphen_sum_at is the people of
  *                     the rows before row and the columns before col; words past that length are as they were
- *   near, far         at least jadurphen_level_len words each. After an answer they hold anything
+ *   current,          the blocks of one round of a search and of the next: at least jadurphen_level_len words each.
+ *   following         After an answer they hold anything
  *
  * Of a search:
  *   km                radius in whole kilometres, on a globe of 6371.0088 km radius
@@ -75,7 +76,7 @@ enum jadurphen_refusal {
     JADURPHEN_SHEET = 6,        /* every cosine above 0 and at most 1; every angle from 0 to 3.141592653589793; a row's
                                    angle to itself at k = 0 equal to 0; angles not falling as k grows; angles at k = 0
                                    not falling as the row moves away from the centre row? */
-    JADURPHEN_BUFFERS = 7,      /* sums, near and far long enough? */
+    JADURPHEN_BUFFERS = 7,      /* sums, current and following long enough? */
     JADURPHEN_RADIUS = 8,       /* km 0 to 20016, and the cell of a single circle on the grid? */
     JADURPHEN_SHARE = 9,        /* share finite, above 0 and at most 1? */
     JADURPHEN_SPACING = 10,     /* automatic, or spacing above 0? */
@@ -125,7 +126,7 @@ static inline size_t jadurphen_sums_len(uint32_t width, uint32_t height)
     return ((size_t)width + 1) * ((size_t)height + 1);
 }
 
-/* Of near, and of far. */
+/* Of current, and of following. */
 static inline size_t jadurphen_level_len(uint32_t width, uint32_t height)
 {
     return (size_t)width * height;
@@ -174,8 +175,9 @@ static inline size_t jadurphen_place_at(size_t place)
 
 /* ---- The calls. Each names the questions that it puts. */
 
-/* Questions 1 to 8: the people of the circle of km around the cell (row, col), written to people. A cell is in the
- * circle where its angle is at most km / 6371.0088; a circle of 0 km is empty. near and far are not needed. */
+/* Questions 1 to 8: the people of the circle of km around the cell (row, col), written to population. A cell is in the
+ * circle where its angle is at most km / 6371.0088; a circle of 0 km is empty. current and following are not
+ * needed. */
 uint32_t jadurphen_circle(
     uint32_t width, uint32_t height, double origin_lat, double lon_step, double lat_step,
     const uint32_t *counts, size_t counts_len,
@@ -183,7 +185,7 @@ uint32_t jadurphen_circle(
     const double *cosines, size_t cosines_len,
     uint64_t *sums, size_t sums_len,
     uint32_t km, uint32_t row, uint32_t col,
-    uint64_t *people);
+    uint64_t *population);
 
 /* What a search writes to words. */
 enum jadurphen_search_word {
@@ -210,8 +212,8 @@ uint32_t jadurphen_search(
     const double *cosines, size_t cosines_len,
     uint32_t km, bool automatic, uint32_t spacing,
     uint64_t *sums, size_t sums_len,
-    uint64_t *near, size_t near_len,
-    uint64_t *far, size_t far_len,
+    uint64_t *current, size_t current_len,
+    uint64_t *following, size_t following_len,
     uint64_t words[JADURPHEN_SEARCH_WORDS],
     double *tolerance);
 
@@ -260,8 +262,8 @@ uint32_t jadurphen_smallest(
     double share, bool automatic, uint32_t spacing,
     uint64_t *ledger, size_t ledger_len,
     uint64_t *sums, size_t sums_len,
-    uint64_t *near, size_t near_len,
-    uint64_t *far, size_t far_len,
+    uint64_t *current, size_t current_len,
+    uint64_t *following, size_t following_len,
     uint64_t words[JADURPHEN_SMALLEST_WORDS],
     double floats[JADURPHEN_SMALLEST_FLOATS]);
 

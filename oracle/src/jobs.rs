@@ -1,4 +1,4 @@
-//! Jobs with the lines that the original's answers give them (crates/jobs/README.md). Cells pruned and cells settled, which the
+//! Jobs with the lines that the original's answers give them (crates/test_jobs/README.md). Cells pruned and cells settled, which the
 //! original does not report, are the second reading's, after its other fields were held against the original's.
 
 use oracle::api::{Centre, Entry, Map, Oracle, Sheet};

@@ -1,4 +1,4 @@
-//! Lines of the list's format (crates/replay/README.md).
+//! Lines of the list's format (crates/test_replay/README.md).
 
 use std::io::Write;
 

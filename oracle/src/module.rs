@@ -86,8 +86,8 @@ impl<'a> Module<'a> {
         let mut lent = Buffers::new(&grid);
         // No call may count on what it finds there.
         lent.sums.fill(3);
-        lent.near.fill(5);
-        lent.far.fill(7);
+        lent.current.fill(5);
+        lent.following.fill(7);
         let map = jadurphen::Map {
             grid,
             counts: &map.counts,

@@ -1,5 +1,5 @@
 //! The judge of a sheet, the call's question 6 and a second reading, asked of the same sheets: sheets SEED COUNT.
-//! The module is asked by lists of cases that the program of `crates/edges` plays; fails on a disagreement.
+//! The module is asked by lists of cases that the program of `crates/test_edges` plays; fails on a disagreement.
 
 mod damage;
 
@@ -207,7 +207,7 @@ fn places() -> std::io::Result<(PathBuf, PathBuf)> {
     let folder = Path::new("target/oracle/lists");
     fs::create_dir_all(folder)?;
     Ok((
-        fs::canonicalize("target/bin/edges")?,
+        fs::canonicalize("target/bin/test_edges")?,
         fs::canonicalize(folder)?,
     ))
 }

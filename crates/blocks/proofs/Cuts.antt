@@ -1,5 +1,5 @@
 -- Children and tiles one after the other, as the code writes them.
-use Prim.Native.Nat.{ℕ, _+_, _-_, _<_}
+use Prim.Native.Nat.{ℕ, _+_, _<_}
 use mathlib.Core.Path.{_≡_, refl, sym, ap, _∙_}
 use mathlib.Core.Bool.{false}
 use mathlib.Core.List.{List, [], _∷_, _++_, append-nil}
@@ -12,7 +12,8 @@ use Rattle.lists.proofs.Folds.{length-each, each-append}
 use Rattle.lists.proofs.Writes.{written-none, Writing, writing-start, writing-step, writing-more, writing-end, writing-done}
 use Rattle.blocks.specs.declared.Block.{Block}
 use Rattle.blocks.specs.Block.{range, block, isCell, middle, cross, halves, split}
-use Rattle.blocks.specs.Word.{Written, wordOf, columnHalves, CanHalve, CanSplit}
+use Rattle.blocks.specs.State.{Written, base, wordOf, columnHalves}
+use Rattle.blocks.specs.Requires.{CanHalve, CanSplit}
 
 -- ---- halves
 
@@ -25,7 +26,7 @@ unfolding halves
 halves-two low high e = rw (ne-eqb low high e)
 
 -- the middle of small numbers is small
-pub middle-small : (low high : ℕ) → low < 65536 → high < 65536 → middle low high < 65536
+pub middle-small : (low high : ℕ) → low < base → high < base → middle low high < base
 unfolding middle
 middle-small low high p q = omega arith
 

@@ -1,5 +1,4 @@
 -- The laws of blocks and of the buffers that hold them.
-pub mod General
 pub mod Ranges
 pub mod Shapes
 pub mod Tiles

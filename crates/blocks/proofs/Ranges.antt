@@ -170,18 +170,6 @@ steps-part (suc fuel) step low high =
     (all-map (λ r p. record { low = omega arith; order = p .order; high = p .high }) (steps-part fuel step _ high)))
     (λ e. none)
 
--- a step is as long as the step, and the last one may be shorter
-pub record Stepped (step last : ℕ) (r : Range) : Type 0 where
-  pub most : size r ≤ step
-  pub full : r .high < last → size r ≡ step
-
-pub steps-stepped : (fuel step low high : ℕ) → 1 ≤ step → AllOf (Stepped step high) (steps fuel step low high)
-unfolding steps
-steps-stepped zero step low high s = none
-steps-stepped (suc fuel) step low high s =
-    cond-case (AllOf (Stepped step high)) (leb low high) _ _
-    (λ e. also (record { most = omega arith; full = λ l. omega arith }) (steps-stepped fuel step _ high s)) (λ e. none)
-
 -- a half is inside, and shorter where there are two
 pub record Half (low high : ℕ) (r : Range) : Type 0 where
   pub part : Part low high r

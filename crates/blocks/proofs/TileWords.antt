@@ -14,7 +14,7 @@ use Rattle.lists.proofs.Writes.{Writing, writing-start, writing-step, writing-m
 use Rattle.grid.specs.declared.Grid.{Grid}
 use Rattle.grid.specs.Grid.{cells}
 use Rattle.blocks.specs.Block.{Range, range, block, steps, cross, tile}
-use Rattle.blocks.specs.Word.{Written, Tiled, wordOf, tileRow}
+use Rattle.blocks.specs.State.{Written, Tiled, wordOf, tileRow}
 use Rattle.blocks.proofs.Tiles.{tile-area, tile-rectangle, length-area}
 
 -- ---- the numbers below n, cut in steps from low on

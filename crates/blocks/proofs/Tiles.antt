@@ -3,24 +3,42 @@ use Prim.Native.Nat.{ℕ, zero, suc, _+_, _-_, _*_, _≤_, _<_}
 use mathlib.Core.Path.{_≡_, refl, ap₂, _∙_}
 use mathlib.Core.Logic.{_⊎_, inl, inr}
 use mathlib.Core.Bool.{Bool, true, false, _&&_, true≢false}
-use mathlib.Core.List.{List, []}
+use mathlib.Core.List.{List, [], _∷_}
+use native.Mathlib.Decide.{decLt}
 use native.Mathlib.Omega.{arith}
 use native.Mathlib.Nat.{add-zero, zero-mul, mul-zero}
-use lib.ListN.{length, getD}
+use lib.ListN.{length}
 use lib.Dec.{T, eqb}
 use borrow.Author.Tests.{eqb-true, eqb-false}
 use Rattle.lists.specs.Counted.{one}
 use Rattle.lists.proofs.Bools.{cond-case, cases, and-left, and-right}
 use Rattle.lists.proofs.Sums.{times-le}
-use Rattle.lists.proofs.Elements.{AllOf, none, AnyOf, all-map, any-map, total}
+use Rattle.lists.proofs.Elements.{AllOf, none, also, AnyOf, here, there, all-map, any-map, total}
 use Rattle.grid.specs.declared.Cell.{Cell}
 use Rattle.grid.specs.declared.Grid.{Grid}
 use Rattle.grid.specs.Grid.{onGrid, cells}
 use Rattle.blocks.specs.declared.Block.{Block}
 use Rattle.blocks.specs.Block.{Range, range, block, area, isCell, probe, steps, cross, tile, halves, split, Rectangle, Holds}
 use Rattle.grid.proofs.CellOrder.{cell-path, on-grid}
-use Rattle.blocks.proofs.General.{any-positive, parts-total, length-total}
-use Rattle.blocks.proofs.Ranges.{Additive, size, size-additive, having, having-of, of-having, having-additive, middle-low, middle-high, steps-add, halves-add, times, cross-times, steps-part, Stepped, steps-stepped, Half, halves-half, cross-all}
+use Rattle.blocks.proofs.Ranges.{Additive, size, size-additive, having, having-of, of-having, having-additive, middle-low, middle-high, steps-add, halves-add, times, cross-times, steps-part, Half, halves-half, cross-all}
+
+-- ---- sums over a list
+
+module _ {A : Type 0} (f : A → ℕ) where
+  -- where the sum is above 0 some element's share is
+  any-positive : (xs : List A) → 1 ≤ total f xs → AnyOf (λ x. 1 ≤ f x) xs
+  unfolding total
+  any-positive [] h = absurd (omega arith)
+  any-positive (x ∷ xs) h = elim (decLt 0 (f x)) [
+    | yes p ↦ here p
+    | no p ↦ there (any-positive xs (omega arith))
+  ]
+
+  -- where each share is above 0 there are at most as many elements
+  length-total : {xs : List A} → AllOf (λ x. 1 ≤ f x) xs → length xs ≤ total f xs
+  unfolding total
+  length-total none = omega arith
+  length-total (also p a) = omega (arith, length-total a)
 
 -- ---- what adds up over rows and columns adds up over tiles and children
 
@@ -116,11 +134,6 @@ of-holding x b h =
 pub held-by : (x : Cell) (bs : List Block) → 1 ≤ total (holding x) bs → AnyOf (λ b. Holds b x) bs
 held-by x bs h = any-map (of-holding x) (any-positive (holding x) bs h)
 
--- and no two do
-pub apart : (x : Cell) (bs : List Block) → total (holding x) bs ≤ 1 → (i j : ℕ) (d : Block) → i < j → j < length bs
-    → Holds (getD bs i d) x → Holds (getD bs j d) x → ⊥
-apart x bs h i j d p q a b = omega (arith, parts-total (holding x) bs i j d p q, holding-of x (getD bs i d) a, holding-of x (getD bs j d) b)
-
 pub tile-once : (g : Grid) (spacing : ℕ) (x : Cell) → T (onGrid g x) → total (holding x) (tile g spacing) ≡ 1
 unfolding holding
 tile-once g spacing x t =
@@ -132,10 +145,6 @@ tile-once g spacing x t =
 pub tile-cover : (g : Grid) (spacing : ℕ) (x : Cell) → T (onGrid g x) → AnyOf (λ b. Holds b x) (tile g spacing)
 tile-cover g spacing x t = held-by x (tile g spacing) (omega (arith, tile-once g spacing x t))
 
-pub tile-apart : (g : Grid) (spacing : ℕ) (x : Cell) → T (onGrid g x) → (i j : ℕ) (d : Block) → i < j → j < length (tile g spacing)
-    → Holds (getD (tile g spacing) i d) x → Holds (getD (tile g spacing) j d) x → ⊥
-tile-apart g spacing x t = apart x (tile g spacing) (omega (arith, tile-once g spacing x t))
-
 pub split-once : (g : Grid) (b : Block) → Rectangle g b → isCell b ≡ false → (x : Cell) → total (holding x) (split b) ≡ holding x b
 unfolding holding
 split-once g b r e x =
@@ -143,10 +152,6 @@ split-once g b r e x =
 
 pub split-cover : (g : Grid) (b : Block) → Rectangle g b → isCell b ≡ false → (x : Cell) → Holds b x → AnyOf (λ c. Holds c x) (split b)
 split-cover g b r e x h = held-by x (split b) (omega (arith, split-once g b r e x, holding-of x b h))
-
-pub split-apart : (g : Grid) (b : Block) → Rectangle g b → isCell b ≡ false → (x : Cell) → Holds b x → (i j : ℕ) (d : Block) → i < j
-    → j < length (split b) → Holds (getD (split b) i d) x → Holds (getD (split b) j d) x → ⊥
-split-apart g b r e x h = apart x (split b) (omega (arith, split-once g b r e x, holding-of x b h))
 
 -- ---- probes
 
@@ -176,17 +181,6 @@ unfolding tile
 tile-rectangle g spacing w h =
     cross-all (λ r c p q. record { rows = p .order; south = omega arith; columns = q .order; east = omega arith })
     (steps-part (g .height) spacing 0 (g .height - 1)) (steps-part (g .width) spacing 0 (g .width - 1))
-
--- a tile is as tall and as wide as the spacing, except at the south and the east of the grid
-pub record Sided (g : Grid) (spacing : ℕ) (b : Block) : Type 0 where
-  pub rows : Stepped spacing (g .height - 1) (range (b .north .0) (b .south .0))
-  pub columns : Stepped spacing (g .width - 1) (range (b .first .0) (b .last .0))
-
-pub tile-sided : (g : Grid) (spacing : ℕ) → 1 ≤ spacing → AllOf (Sided g spacing) (tile g spacing)
-unfolding tile
-tile-sided g spacing s =
-    cross-all (λ r c p q. record { rows = p; columns = q }) (steps-stepped (g .height) spacing 0 (g .height - 1) s)
-    (steps-stepped (g .width) spacing 0 (g .width - 1) s)
 
 pub split-rectangle : (g : Grid) (b : Block) → Rectangle g b → AllOf (Rectangle g) (split b)
 unfolding split

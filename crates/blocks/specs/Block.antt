@@ -14,9 +14,11 @@ pub record Range : Type 0 where
   pub low : ℕ
   pub high : ℕ
 
+-- a range by its two ends
 abbrev pub range : ℕ → ℕ → Range
 range a b = record { low = a; high = b }
 
+-- the block of a range of rows and a range of columns
 abbrev pub block : Range → Range → Block
 block rows cols =
     record { north = record { 0 = rows .low }; south = record { 0 = rows .high }; first = record { 0 = cols .low }; last = record { 0 = cols .high } }
@@ -25,6 +27,7 @@ block rows cols =
 unfoldable pub area : Block → ℕ
 area b = (b .last .0 + 1 - b .first .0) * (b .south .0 + 1 - b .north .0)
 
+-- a single cell: one row and one column
 unfoldable pub isCell : Block → Bool
 isCell b = eqb (b .north .0) (b .south .0) && eqb (b .first .0) (b .last .0)
 
@@ -60,6 +63,7 @@ cross rows cols = concatEach (λ r. each (block r) cols) rows
 unfoldable pub tile : Grid → ℕ → List Block
 tile g spacing = cross (steps (g .height) spacing 0 (g .height - 1)) (steps (g .width) spacing 0 (g .width - 1))
 
+-- a range halved: itself where it is one number, otherwise up to the middle and from the next number on
 unfoldable pub halves : ℕ → ℕ → List Range
 halves low high =
     let two : List Range = range low (middle low high) ∷ range (middle low high + 1) high ∷ [] in
@@ -84,6 +88,6 @@ pub record Holds (b : Block) (x : Cell) : Type 0 where
   pub last : x .col .0 ≤ b .last .0
 
 -- opens all of the above, for facts that are computed
-unfoldable pub blocks : Unit {0}
+unfoldable pub open-blocks : Unit {0}
 unfolding area isCell middle probe sameShape byProbe steps cross tile halves split
-blocks = tt
+open-blocks = tt

@@ -1,2 +1,3 @@
 pub mod Block
-pub mod Word
+pub mod State
+pub mod Requires

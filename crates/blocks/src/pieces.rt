@@ -8,7 +8,8 @@ ghost use Prim.Native.Nat.{_+_, _-_, _≤_, min};
 ghost use lib.ListN.{length};
 ghost use Rattle.lists.specs.Lists.{each};
 ghost use Rattle.blocks.specs.Block.{range, split, tile};
-ghost use Rattle.blocks.specs.Word.{wordOf, columnHalves, tileRow, Written, Tiled, CanSplit, CanHalve};
+ghost use Rattle.blocks.specs.State.{wordOf, columnHalves, tileRow, Written, Tiled};
+ghost use Rattle.blocks.specs.Requires.{CanSplit, CanHalve};
 
 // The block with its columns halved, the west one first, from place at on; the place after them.
 fn halve_columns(block: Block, words: &mut [u64], at: usize) -> usize

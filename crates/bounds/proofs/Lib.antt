@@ -1,8 +1,6 @@
--- The laws of wide circles and bounds, and of the first level's spacing.
+-- The laws of wide circles, of bounds, and of the first level's sides.
 pub mod Bounds
-pub mod Spacings
 pub mod Wide
 pub mod WideFacts
-pub mod Literals
 pub mod Sides
 pub mod Shaped

@@ -9,12 +9,13 @@ use Rattle.grid.specs.declared.Row.{Row}
 use Rattle.grid.specs.declared.Grid.{Grid}
 use Rattle.grid.specs.Numbers.{radian}
 use Rattle.grid.specs.Grid.{arcKm, centreLat}
-use Rattle.grid.specs.Map.{Globe, cosineAt}
-use Rattle.kernel.specs.Kernel.{kernelOf, globeOf, sheetOf}
+use Rattle.grid.specs.Map.{Globe, cosineAt, globeOf, sheetOf}
+use Rattle.kernel.specs.Kernel.{kernelOf}
 use Rattle.blocks.specs.declared.Block.{Block}
 use Rattle.blocks.specs.Block.{probe, sameShape}
 use Rattle.blocks.proofs.Shapes.{farSide, shape-north, shape-south, shape-row, shape-side}
-use Rattle.bounds.specs.Bound.{slackMargin, slackKm, widenedBy, wideKm, wideKernel}
+use Rattle.bounds.specs.Bound.{slackMargin, slackKm, widenedBy, wideKm}
+use Rattle.bounds.specs.State.{wideKernel}
 
 -- the slack of a block by what it reads of it
 abbrev slackFrom : Globe → Row → Row → Row → ℕ → Float

@@ -23,7 +23,7 @@ use Rattle.grid.specs.Numbers.{largest}
 use Rattle.grid.specs.Grid.{ceiling}
 use Rattle.grid.specs.Map.{Globe, Map}
 use Rattle.grid.proofs.SheetOrder.{InOrder}
-use Rattle.table.specs.Table.{total}
+use Rattle.sums.specs.Sums.{total}
 use Rattle.kernel.proofs.Populations.{population-all}
 use Rattle.blocks.specs.declared.Block.{Block}
 use Rattle.blocks.specs.Block.{Rectangle, middle, probe}

@@ -3,15 +3,15 @@ use mathlib.Core.Path.{_≡_, refl}
 use mathlib.Core.Bool.{true, false}
 use mathlib.Core.List.{[], _∷_}
 use lib.Ieee.{inf, binary64, neg, toBits}
-use Rattle.floats.specs.Binary.{floats, whole, decimal}
-use Rattle.lists.specs.Counted.{counted}
+use Rattle.floats.specs.Binary.{open-floats, whole, decimal}
+use Rattle.lists.specs.Counted.{open-counted}
 use Rattle.grid.specs.Numbers.{largest}
-use Rattle.grid.specs.Grid.{grids, cell}
-use Rattle.grid.specs.Map.{Globe, maps}
-use Rattle.kernel.specs.Circle.{circles, inCircle}
+use Rattle.grid.specs.Grid.{open-grids, cell}
+use Rattle.grid.specs.Map.{Globe, open-maps}
+use Rattle.kernel.specs.Circle.{open-circles, inCircle}
 use Rattle.blocks.specs.declared.Block.{Block}
-use Rattle.blocks.specs.Block.{range, block, blocks}
-use Rattle.bounds.specs.Bound.{bounds, slackKm, widenedBy, wideKm, inWideCircle}
+use Rattle.blocks.specs.Block.{range, block, open-blocks}
+use Rattle.bounds.specs.Bound.{open-bounds, slackKm, widenedBy, wideKm, inWideCircle}
 
 -- four rows and five columns, and the block of its first four columns, whose probe is cell (1, 1)
 unfoldable pub smallGlobe : Globe
@@ -46,5 +46,5 @@ pub record Computed : Type 0 where
   pub wide-circle : inWideCircle ringOfFour (whole 1) (block (range 0 0) (range 0 3)) (cell 0 3) ≡ true
 
 pub computed : Computed
-unfolding floats counted grids maps circles blocks bounds smallGlobe ringOfFour
+unfolding open-floats open-counted open-grids open-maps open-circles open-blocks open-bounds smallGlobe ringOfFour
 computed = record { slack = refl; wide = refl; wide-below = refl; wide-above = refl; circle = refl; wide-circle = refl }

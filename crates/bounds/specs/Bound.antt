@@ -1,22 +1,16 @@
 -- The wide circle of a block, and the block's bound.
 use Prim.Native.Nat.{ℕ, _-_}
-use mathlib.Core.Path.{_≡_}
 use mathlib.Core.Bool.{Bool, cond}
-use mathlib.Core.List.{List}
-use lib.ListN.{length}
 use lib.Ieee.{Float}
-use Rattle.floats.specs.Binary.{whole, _⊕_, _⊖_, _⊗_, finite, absolute, greater}
 use Rattle.lists.specs.Counted.{max}
+use Rattle.floats.specs.Binary.{whole, _⊕_, _⊖_, _⊗_, finite, absolute, greater}
 use Rattle.grid.specs.declared.Cell.{Cell}
-use Rattle.grid.specs.declared.Grid.{Grid}
 use Rattle.grid.specs.Numbers.{radian, ε, largest}
 use Rattle.grid.specs.Grid.{arcKm, centreLat}
 use Rattle.grid.specs.Map.{Globe, Map, cosineAt}
-use Rattle.kernel.specs.declared.Kernel.{Kernel}
 use Rattle.kernel.specs.Circle.{inCircle, population}
-use Rattle.kernel.specs.Kernel.{kernelOf, sheetOf, Sheet}
 use Rattle.blocks.specs.declared.Block.{Block}
-use Rattle.blocks.specs.Block.{probe, Rectangle}
+use Rattle.blocks.specs.Block.{probe}
 
 -- 1.0 + 32.0 × EPSILON
 unfoldable pub slackMargin : Float
@@ -35,26 +29,13 @@ slackKm s b =
     let hops = deltaLat ⊗ radian ⊕ deltaLon ⊗ radian ⊗ cosineAt s (p .row) in
     arcKm g hops ⊗ slackMargin
 
+-- a radius widened by a slack: never below the radius, and the largest number where the sum is not finite
 unfoldable pub widenedBy : Float → Float → Float
 widenedBy km slack = let wide = km ⊕ slack in cond (finite wide) (greater wide km) largest
 
+-- the radius of the wide circle of a block
 unfoldable pub wideKm : Globe → Float → Block → Float
 wideKm s km b = widenedBy km (slackKm s b)
-
--- what the slack's code asks: a cosine for each row, and a rectangle on the grid
-pub record OnSheet (g : Grid) (cosines : List Float) (b : Block) : Type 0 where
-  pub complete : length cosines ≡ g .height
-  pub rectangle : Rectangle g b
-
--- the kernel of a block's wide circle
-unfoldable pub wideKernel : Globe → Float → Block → Kernel
-wideKernel s km b = kernelOf (sheetOf (s .grid) (s .angles)) (probe b .row) (wideKm s km b)
-
--- what it is built with
-pub record CanWiden (g : Grid) (angles cosines : List Float) (b : Block) : Type 0 where
-  pub sheet : Sheet g angles
-  pub complete : length cosines ≡ g .height
-  pub rectangle : Rectangle g b
 
 -- a cell is in the wide circle of a block
 unfoldable pub inWideCircle : Globe → Float → Block → Cell → Bool
@@ -65,6 +46,6 @@ unfoldable pub bound : Map → Float → Block → ℕ
 bound m km b = population m (wideKm (m .globe) km b) (probe b)
 
 -- opens all of the above, for facts that are computed
-unfoldable pub bounds : Unit {0}
-unfolding slackMargin slackKm widenedBy wideKm wideKernel inWideCircle bound
-bounds = tt
+unfoldable pub open-bounds : Unit {0}
+unfolding slackMargin slackKm widenedBy wideKm inWideCircle bound
+open-bounds = tt

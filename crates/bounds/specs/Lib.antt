@@ -1,2 +1,4 @@
 pub mod Bound
+pub mod Requires
+pub mod State
 pub mod Spacing

@@ -1,12 +1,12 @@
 -- The spacing of the first level, given or automatic.
 use Prim.Native.Nat.{ℕ, zero, suc, _+_, _-_, _/_, _%_, min}
-use mathlib.Core.Bool.{Bool, true, cond, _&&_, _||_}
-use lib.Ieee.{Float, le, lt}
+use mathlib.Core.Bool.{Bool, cond, true, _&&_, _||_}
 use lib.Dec.{leb, ltb, eqb}
-use Rattle.floats.specs.Binary.{whole, _⊕_, _⊗_, absolute, nextUp}
+use lib.Ieee.{Float, le, lt}
 use Rattle.lists.specs.Counted.{max}
+use Rattle.floats.specs.Binary.{whole, _⊕_, _⊗_, absolute, nextUp}
 use Rattle.grid.specs.declared.Grid.{Grid}
-use Rattle.grid.specs.Numbers.{π, radian, ε}
+use Rattle.grid.specs.Numbers.{radian, ε, π}
 use Rattle.grid.specs.Grid.{arcKm}
 use Rattle.bounds.specs.declared.Spacing.{Spacing}
 use Rattle.bounds.specs.declared.Spacing.the-variants.{Automatic, Cells}
@@ -32,6 +32,7 @@ extentFits g km rows cols =
     let slack = nextUp (nextUp (arcKm g angle) ⊗ slackMargin) in
     lt (nextUp (widenedBy km slack)) (arcKm g π)
 
+-- blocks of a side fit: single cells always do
 unfoldable pub sideFits : Grid → Float → ℕ → Bool
 sideFits g km side =
     let rows = min side (g .height) / 2 in
@@ -49,13 +50,14 @@ widestSide (suc fuel) g km low high =
     let next = cond (sideFits g km mid) wider narrower in
     cond (ltb low high) next low
 
--- automatic spacing
+-- the automatic spacing: the longer side of the grid from half the circumference on
 unfoldable pub initialSpacing : Grid → Float → ℕ
 initialSpacing g km =
     let longest = max (g .width) (g .height) in
     let found = widestSide longest g km 1 longest in
     cond (le (arcKm g π) km) longest found
 
+-- the spacing at a radius: found, or so many cells
 unfoldable pub spacingOf : Grid → Float → Spacing → ℕ
 spacingOf g km Automatic = initialSpacing g km
 spacingOf g km (Cells n) = n
@@ -66,6 +68,6 @@ spacingGiven Automatic = true
 spacingGiven (Cells n) = leb 1 n
 
 -- opens all of the above, for facts that are computed
-unfoldable pub spacings : Unit {0}
+unfoldable pub open-spacings : Unit {0}
 unfolding latitudeExtent longitudeExtent extentFits sideFits widestSide initialSpacing spacingOf spacingGiven
-spacings = tt
+open-spacings = tt

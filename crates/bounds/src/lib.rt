@@ -10,7 +10,7 @@ pub use side::initial_spacing;
 pub use side::spacing_given;
 pub use side::spacing_of;
 
-// The side of the first level's blocks.
+// The side of the first level's blocks: found for the radius, or so many cells.
 pub enum Spacing {
     Automatic,
     Cells(u32),

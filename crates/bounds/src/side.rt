@@ -6,12 +6,11 @@ ghost use mathlib.Core.Bool.{_&&_};
 ghost use Prim.Native.Nat.{_/_, min};
 ghost use lib.Dec.{eqb};
 ghost use Rattle.lists.specs.Counted.{max};
-ghost use Rattle.bounds.specs.Spacing.{latitudeExtent, longitudeExtent, extentFits, sideFits, widestSide, initialSpacing, spacingOf, spacingGiven};
+ghost use Rattle.bounds.specs.Spacing.{latitudeExtent, longitudeExtent, extentFits, sideFits, widestSide};
+ghost use Rattle.bounds.specs.Spacing.{initialSpacing, spacingOf, spacingGiven};
 
-// Half a turn in radians.
-const HALF_TURN: f64 = 3.141592653589793;
-
-// Degrees that so many rows may span, rounded outward.
+// Degrees that so many rows may span, rounded outward. Eight ε of the latitudes' size cover the roundings of two row centres and their
+// difference, also where the step is lost beside the origin; the next values up cover steps too small for a relative bound.
 fn latitude_extent(grid: Grid, rows: u32) -> f64
     ensures { λ r. ⌜ r ≡ latitudeExtent grid rows ⌝ }
 {
@@ -21,7 +20,7 @@ fn latitude_extent(grid: Grid, rows: u32) -> f64
     let step = floats::abs(grid.lat_step);
     let height = floats::next_up(grid.height as f64 * step);
     let scale = floats::next_up(floats::abs(grid.origin_lat) + height);
-    let headroom = floats::next_up(8.0 * crate::bound::EPSILON * scale);
+    let headroom = floats::next_up(8.0 * floats::EPSILON * scale);
     let span = floats::next_up(rows as f64 * step);
     floats::next_up(span + headroom)
 }
@@ -36,7 +35,8 @@ fn longitude_extent(grid: Grid, cols: u32) -> f64
     floats::next_up(cols as f64 * floats::abs(grid.lon_step))
 }
 
-// Whether the radius widened by those extents stays below half the circumference.
+// Whether the radius widened by those extents stays below half the circumference. No cosine is taken, as if all lay on the equator, so
+// that the side is one for every latitude.
 fn extent_fits(grid: Grid, km: f64, rows: u32, cols: u32) -> bool
     ensures { λ r. ⌜ r ≡ extentFits grid km rows cols ⌝ }
 {
@@ -45,7 +45,7 @@ fn extent_fits(grid: Grid, km: f64, rows: u32, cols: u32) -> bool
     let angle = floats::next_up(latitude + longitude);
     let arc = floats::next_up(grid::arc_km(grid, angle));
     let slack = floats::next_up(arc * crate::bound::slack_margin());
-    floats::next_up(crate::widened_by(km, slack)) < grid::arc_km(grid, HALF_TURN)
+    floats::next_up(crate::widened_by(km, slack)) < grid::arc_km(grid, grid::HALF_TURN)
 }
 
 fn half_of_lesser(side: u32, size: u32) -> u32
@@ -100,17 +100,18 @@ fn longest(grid: Grid) -> u32
     }
 }
 
-// The automatic spacing.
+// The automatic spacing. From half the circumference on every wide circle is the whole grid and nothing is pruned: one block is enough.
 pub fn initial_spacing(grid: Grid, km: f64) -> u32
     ensures { λ r. ⌜ r ≡ initialSpacing grid km ⌝ }
 {
     let side = longest(grid);
-    if grid::arc_km(grid, HALF_TURN) <= km {
+    if grid::arc_km(grid, grid::HALF_TURN) <= km {
         return side;
     }
     widest_side(grid, km, side)
 }
 
+// The side of the first level's blocks at a radius.
 pub fn spacing_of(grid: Grid, km: f64, spacing: Spacing) -> u32
     ensures { λ r. ⌜ r ≡ spacingOf grid km spacing ⌝ }
 {
@@ -120,7 +121,7 @@ pub fn spacing_of(grid: Grid, km: f64, spacing: Spacing) -> u32
     }
 }
 
-// Question 10.
+// Question 10: a spacing of no cells would make no blocks.
 pub fn spacing_given(spacing: Spacing) -> bool
     ensures { λ r. ⌜ r ≡ spacingGiven spacing ⌝ }
 {

@@ -3,7 +3,6 @@ use Prim.Native.Nat.{ℕ, _≤_, _<_}
 use mathlib.Core.Path.{_≡_, refl, sym, _∙_}
 use mathlib.Core.Logic.{_⊎_, inl, inr}
 use mathlib.Core.Bool.{true, false, false≢true}
-use native.Mathlib.Decide.{decLt}
 use native.Mathlib.Omega.{arith}
 use lib.Dec.{T}
 use borrow.Author.Tests.{ltb-true, ltb-false}
@@ -13,7 +12,7 @@ use Rattle.candidates.specs.declared.Candidate.{Candidate}
 use Rattle.candidates.specs.declared.Held.{Held}
 use Rattle.candidates.specs.declared.Held.the-variants.{Nobody, Best}
 use Rattle.candidates.specs.Candidate.{candidateOf, centreOf, better, betterHeld, prunes}
-use Rattle.grid.proofs.CellOrder.{before-trans, before-not, Compared, first, same, second, compare}
+use Rattle.grid.proofs.CellOrder.{before-trans, Compared, first, same, second, compare}
 
 infix 50 _≼_
 pub data _≼_ (c d : Candidate) : Type 0 where
@@ -24,7 +23,7 @@ pub data _≼_ (c d : Candidate) : Type 0 where
 candidate-path : (c d : Candidate) → c .population ≡ d .population → centreOf c ≡ centreOf d → c ≡ d
 candidate-path c d p q = λ i. candidateOf (q i) (p i)
 
--- ---- a total order
+-- ---- an order
 
 pub ≼-refl : (c : Candidate) → c ≼ c
 ≼-refl c = equal refl
@@ -37,30 +36,6 @@ pub ≼-trans : {c d e : Candidate} → c ≼ d → d ≼ e → c ≼ e
 ≼-trans (fewer a) (equal q) = rw (← q) (fewer a)
 ≼-trans (later p a) (equal q) = rw (← q) (later p a)
 ≼-trans (equal p) b = rw p b
-
-pub ≼-antisym : {c d : Candidate} → c ≼ d → d ≼ c → c ≡ d
-≼-antisym (equal p) b = p
-≼-antisym (fewer a) (equal q) = sym q
-≼-antisym (later p a) (equal q) = sym q
-≼-antisym (fewer a) (fewer b) = absurd (omega arith)
-≼-antisym (fewer a) (later p b) = absurd (omega arith)
-≼-antisym (later p a) (fewer b) = absurd (omega arith)
-≼-antisym {c} {d} (later p a) (later q b) = absurd (before-not (centreOf d) (before-trans (centreOf d) (centreOf c) (centreOf d) a b))
-
--- of as many people the first cell's candidate is the greater
-tied : (c d : Candidate) → c .population ≡ d .population → Compared (centreOf c) (centreOf d) → (c ≼ d) ⊎ (d ≼ c)
-tied c d p (first b) = inr (later (sym p) b)
-tied c d p (same q) = inl (equal (candidate-path c d p q))
-tied c d p (second b) = inl (later p b)
-
-pub ≼-total : (c d : Candidate) → (c ≼ d) ⊎ (d ≼ c)
-≼-total c d = elim (decLt (c .population) (d .population)) [
-  | yes p ↦ inl (fewer p)
-  | no p ↦ elim (decLt (d .population) (c .population)) [
-    | yes q ↦ inr (fewer q)
-    | no q ↦ tied c d (omega arith) (compare (centreOf c) (centreOf d))
-  ]
-]
 
 -- ---- the better of two
 

@@ -1,8 +1,8 @@
 -- Candidates: a centre with the population of its circle, and which of two is better.
 use Prim.Native.Nat.{ℕ}
 use mathlib.Core.Bool.{Bool, false, cond}
-use lib.Ieee.{Float}
 use lib.Dec.{ltb}
+use lib.Ieee.{Float}
 use Rattle.grid.specs.declared.Cell.{Cell}
 use Rattle.grid.specs.Grid.{cell, before}
 use Rattle.grid.specs.Map.{Map}
@@ -11,9 +11,11 @@ use Rattle.candidates.specs.declared.Candidate.{Candidate}
 use Rattle.candidates.specs.declared.Held.{Held}
 use Rattle.candidates.specs.declared.Held.the-variants.{Nobody, Best}
 
+-- a cell with a population
 abbrev pub candidateOf : Cell → ℕ → Candidate
-candidateOf x people = record { row = x .row; col = x .col; population = people }
+candidateOf x population = record { row = x .row; col = x .col; population = population }
 
+-- the cell of a candidate
 abbrev pub centreOf : Candidate → Cell
 centreOf c = record { row = c .row; col = c .col }
 
@@ -21,9 +23,9 @@ centreOf c = record { row = c .row; col = c .col }
 unfoldable pub candidate : Map → Float → Cell → Candidate
 candidate m km x = candidateOf x (population m km x)
 
--- the cell (0, 0)
+-- the cell (0, 0) with a population
 unfoldable pub northWest : ℕ → Candidate
-northWest people = candidateOf (cell 0 0) people
+northWest population = candidateOf (cell 0 0) population
 
 -- more people win; of as many, the first by row, then column
 unfoldable pub better : Candidate → Candidate → Candidate
@@ -32,6 +34,7 @@ better c d =
     let least = cond (ltb (d .population) (c .population)) c tied in
     cond (ltb (c .population) (d .population)) d least
 
+-- the better of what two hold
 unfoldable pub betterHeld : Held → Held → Held
 betterHeld Nobody h = h
 betterHeld (Best c) Nobody = Best c
@@ -43,6 +46,6 @@ prunes bound Nobody = false
 prunes bound (Best c) = ltb bound (c .population)
 
 -- opens all of the above, for facts that are computed
-unfoldable pub candidates : Unit {0}
+unfoldable pub open-candidates : Unit {0}
 unfolding candidate northWest better betterHeld prunes
-candidates = tt
+open-candidates = tt

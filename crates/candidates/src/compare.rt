@@ -14,7 +14,7 @@ fn centre_of(c: Candidate) -> Cell
     Cell { row, col }
 }
 
-// More people win; of as many, the first by row, then column.
+// More people win; of as many, the first by row, then column, so that the winner does not hang on the order in which candidates are met.
 pub fn better(c: Candidate, d: Candidate) -> Candidate
     ensures { λ r. ⌜ r ≡ better c d ⌝ }
 {
@@ -29,6 +29,7 @@ pub fn better(c: Candidate, d: Candidate) -> Candidate
     if grid::before(x, y) { d } else { c }
 }
 
+// The better of what two hold, if either holds one.
 pub fn better_held(a: Held, b: Held) -> Held
     ensures { λ r. ⌜ r ≡ betterHeld a b ⌝ }
 {
@@ -41,13 +42,14 @@ pub fn better_held(a: Held, b: Held) -> Held
     }
 }
 
-// An equal bound does not prune: the block may hold a winner further north-west.
+// An equal bound does not prune: a circle of its block may hold as many people and stand first.
 fn below(bound: u64, population: u64) -> bool
     ensures { λ r. ⌜ r ≡ ltb bound population ⌝ }
 {
     bound < population
 }
 
+// Whether a block of this bound holds no circle that could be the better one. Before anything is held, none is pruned.
 pub fn prunes(bound: u64, held: Held) -> bool
     ensures { λ r. ⌜ r ≡ prunes bound held ⌝ }
 {

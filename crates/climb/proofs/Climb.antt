@@ -48,11 +48,6 @@ module _ {F : Type 0} where
       under : x .km < low → reaches (x .found) ≡ false → Side low high x
       over : high ≤ x .km → reaches (x .found) ≡ true → Side low high x
 
--- the state in which a run ends
-abbrev pub stateOf : {S F : Type 0} → Ended S F → S
-stateOf (allShort s) = s
-stateOf (reachedAt s km f) = s
-
 -- ---- a run: the states and the findings of its probes
 
 module _ {S F : Type 0} (probed : S → ℕ → S) (latest : S → F) (start : S) where
@@ -281,12 +276,3 @@ module _ {S F : Type 0} (probed : S → ℕ → S) (latest : S → F) (start : S
     run-ends l h =
         climb-ends (climbRadii cap) (climbRadii cap) 0 [] 0 refl refl (climb-steps cap l h)
         (record { shorts = none; below = inl refl; within = none; distinct = empty })
-
-    -- WHAT EVERY PROBE UP TO THE CAP KEEPS, THE RUN KEEPS
-    pub run-keeps : (P : S → Type 0) → ((s : S) (km : ℕ) → km ≤ cap → P s → P (probed s km)) → P start → 1 ≤ cap → cap ≤ 20015
-        → P (stateOf (climb probed latest reaches start 0 (climbRadii cap)))
-    run-keeps P keep p l h = by (climb probed latest reaches start 0 (climbRadii cap)) (run-ends l h)
-      where
-        by : (e : Ended S F) → Ends (climbRadii cap) e → P (stateOf e)
-        by (allShort s) e = rw (e .walked .ends) (after-keeps P (UpTo cap) keep p (e .walked .within))
-        by (reachedAt s km f) e = rw (e .walked .ends) (after-keeps P (UpTo cap) keep p (e .walked .within))

@@ -11,7 +11,7 @@ use borrow.Author.Tests.{ltb-true, ltb-false, leb-true, leb-false, lt-ltb, le-lt
 use Rattle.lists.proofs.Bools.{cases}
 use Rattle.climb.specs.declared.Bracket.{Bracket}
 use Rattle.climb.specs.Climb.{doublings, climbRadii, Ended, allShort, reachedAt, bisect, climb}
-use Rattle.climb.specs.Next.{bracketAt, bracketStart, bracketClosed, nextRadius, bracketNext}
+use Rattle.climb.specs.State.{bracketAt, bracketStart, bracketClosed, nextRadius, bracketNext}
 use Rattle.climb.proofs.Radii.{Steps, climb-steps}
 
 -- ---- the next bracket, by what the code tests

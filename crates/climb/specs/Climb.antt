@@ -42,6 +42,6 @@ module _ {S F : Type 0} (probed : S → ℕ → S) (latest : S → F) (reaches :
       cond (reaches (latest next)) closed further
 
 -- opens all of the above, for facts that are computed
-unfoldable pub climbs : Unit {0}
+unfoldable pub open-climbs : Unit {0}
 unfolding doublings climbRadii bisect climb
-climbs = tt
+open-climbs = tt

@@ -1,2 +1,2 @@
 pub mod Climb
-pub mod Next
+pub mod State

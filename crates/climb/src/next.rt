@@ -2,8 +2,8 @@
 use crate::Bracket;
 ghost use mathlib.Core.Path.{_≡_};
 ghost use Prim.Native.Nat.{_+_, _-_, _*_, _/_, _<_, _^_, min};
-ghost use lib.Dec.{leb, ltb};
-ghost use Rattle.climb.specs.Next.{bracketStart, bracketClosed, nextRadius, bracketNext};
+ghost use lib.Dec.{ltb};
+ghost use Rattle.climb.specs.State.{bracketStart, bracketClosed, nextRadius, bracketNext};
 
 // Twice the kilometre, at most the last one.
 fn doubled(km: u32, last: u32) -> u32
@@ -33,6 +33,7 @@ fn below(low: u32, high: u32) -> bool
 }
 
 impl Bracket {
+    // Nothing known, and 1 kilometre next.
     pub fn start() -> Bracket
         ensures { λ r. ⌜ r ≡ bracketStart ⌝ }
     {
@@ -65,7 +66,7 @@ impl Bracket {
         }
     }
 
-    // After the probe of the next kilometre.
+    // What is known after the probe of the next kilometre, where last is the last radius of the climb.
     pub fn next(self, last: u32, reached: bool) -> Bracket
         requires { ⌜ nextRadius self + 1 < 2 ^ 32 ⌝ }
         ensures { λ r. ⌜ r ≡ bracketNext last self reached ⌝ }

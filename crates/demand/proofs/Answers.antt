@@ -8,29 +8,29 @@ use native.Mathlib.Omega.{arith}
 use lib.Dec.{T, eqb}
 use lib.Ieee.{Float, le}
 use borrow.Author.Tests.{eqb-true, eq-eqb}
+use Rattle.lists.proofs.Bools.{is-true, of-true, of-false, not-both, is-false, and-both, and-left, cond-case}
+use Rattle.lists.proofs.Elements.{AllOf, also, AnyOf, here, there}
 use Rattle.floats.specs.Binary.{whole}
 use Rattle.floats.proofs.Order.{le-trans}
 use Rattle.floats.proofs.Whole.{whole-le}
-use Rattle.lists.proofs.Bools.{is-true, of-true, of-false, not-both, is-false, and-both, and-left, cond-case}
-use Rattle.lists.proofs.Elements.{AllOf, also, AnyOf, here, there}
 use Rattle.grid.specs.declared.Cell.{Cell}
 use Rattle.grid.specs.Grid.{ceiling, onGrid}
 use Rattle.grid.specs.Map.{Map}
 use Rattle.grid.proofs.Ceiling.{ceiling-least}
 use Rattle.kernel.specs.Circle.{population}
-use Rattle.candidates.specs.declared.Candidate.{Candidate}
 use Rattle.bounds.specs.declared.Spacing.{Spacing}
+use Rattle.candidates.specs.declared.Candidate.{Candidate}
 use Rattle.candidates.specs.Candidate.{centreOf}
 use Rattle.search.specs.Search.{search}
 use Rattle.ledger.specs.declared.Ledger.{Ledger}
 use Rattle.climb.specs.Climb.{Ended, allShort, reachedAt}
 use Rattle.climb.proofs.Climb.{FoundAt, ShortBelow, UpTo, after-keeps, findings}
-use Rattle.measure.specs.Target.{reaches}
+use Rattle.share.specs.Target.{reaches}
 use Rattle.probes.specs.Probes.{mostRadii, Probe, Run, targetPersons, probed, latest, smallestRun, evaluatedIn}
-use Rattle.probes.specs.Smallest.{Settled, target, shortBelow, smallestAt, concluded, smallest}
-use Rattle.demand.specs.Demand3.{Accepted, BestCandidate, Witnessed, traceOf}
+use Rattle.probes.specs.Smallest.{Settled, shortBelow, smallestAt, concluded, smallest}
 use Rattle.probes.proofs.States.{starting, counted-once}
 use Rattle.probes.proofs.RunLoop.{lastKm}
+use Rattle.demand.specs.Demand3.{Accepted, BestCandidate, Witnessed, traceOf}
 use Rattle.demand.proofs.Traces.{findingOf, WalkedTo, walked-any, walked-few, RunEnds, smallest-ends}
 use Rattle.demand.proofs.Runs.{BestLedger, BestProbe, BestRun, begun, probed-best}
 
@@ -102,7 +102,7 @@ module _ (m : Map) (a : Accepted m) (spacing : Spacing) (share : Float) (l : Led
       → (km < ceiling (m .globe .grid) → AnyOf (FoundAt km c) (findings (probed m spacing) latest (starting l) kms) × (reaches (targetPersons m share) c ≡ true))
       → (1 ≤ km → AnyOf (ShortBelow (reaches (targetPersons m share)) km) (findings (probed m spacing) latest (starting l) kms))
       → SettledRight m l share (r .trace) (record { answer = smallestAt m share (r .trace) km c covers; ledger = r .ledger })
-  unfolding smallestAt target reaches
+  unfolding smallestAt targetPersons reaches
   settled r kms km c covers w h top below =
       let s = walked-best r kms w in
       record {

@@ -9,13 +9,13 @@ use native.Mathlib.Decide.{decLe}
 use lib.Dec.{T, leb, ltb, eqb, le→leb, ltb→lt, eqb→eq}
 use lib.Ieee.{Float, lt, le}
 use lib.Ieee.Fits.{and-i, and-l, and-r}
+use Rattle.lists.specs.Counted.{allBelow}
+use Rattle.lists.proofs.Bools.{is-true, of-true}
+use Rattle.lists.proofs.All.{all-at}
 use Rattle.floats.specs.Binary.{whole}
 use Rattle.floats.proofs.Order.{le-trans}
 use Rattle.floats.proofs.Round.{+0}
 use Rattle.floats.proofs.Total.{lt-not-le}
-use Rattle.lists.specs.Counted.{allBelow}
-use Rattle.lists.proofs.Bools.{is-true, of-true}
-use Rattle.lists.proofs.All.{all-at}
 use Rattle.grid.specs.declared.Cell.{Cell}
 use Rattle.grid.specs.Grid.{cell, angleOf, onGrid}
 use Rattle.grid.specs.Map.{Globe}

@@ -10,10 +10,10 @@ use Rattle.lists.proofs.Bools.{is-true, of-true, or-none, or-assoc}
 use Rattle.grid.specs.Grid.{ceiling}
 use Rattle.grid.specs.Map.{Map}
 use Rattle.grid.specs.Answer.{Question, question, firstNo, Answer, answered, refused, decide, after}
-use Rattle.grid.proofs.Answers.{passed-first, map-passed, map-append, decide-yes, decide-no}
-use Rattle.candidates.specs.declared.Candidate.{Candidate}
+use Rattle.grid.proofs.Answers.{all-yes, after-map, decide-yes, decide-no}
 use Rattle.bounds.specs.declared.Spacing.{Spacing}
 use Rattle.bounds.specs.Spacing.{spacingGiven}
+use Rattle.candidates.specs.declared.Candidate.{Candidate}
 use Rattle.search.specs.Search.{search}
 use Rattle.search.specs.Call.{buffersFit}
 use Rattle.ledger.specs.declared.Entry.{Entry}
@@ -22,11 +22,11 @@ use Rattle.ledger.specs.declared.Ledger.{Ledger}
 use Rattle.ledger.specs.Ledger.{capacity, entries, find, get, risingFrom, allInBounds, placesFree}
 use Rattle.ledger.proofs.Entries.{there}
 use Rattle.ledger.proofs.Laws.{there-get, get-there, in-order, places-free}
-use Rattle.measure.specs.Target.{shareInRange}
+use Rattle.share.specs.Target.{shareInRange}
 use Rattle.probes.specs.declared.Smallest.{Smallest}
 use Rattle.probes.specs.Probes.{mostRadii, smallestRun}
 use Rattle.probes.specs.Smallest.{smallest}
-use Rattle.smallest.specs.Call.{smallestQuestions, smallestCall}
+use Rattle.smallest.specs.Call.{ownQuestions, smallestQuestions, smallestCall}
 use Rattle.demand.specs.Demand3.{Accepted, BestCandidate, Call, called, fresh, ledgerAfter, AnsweredRight, CallRight, EachRight, traceOf, probesOf, callProbes, evaluatedAt, evaluatedBy, evaluatedOf, radiiEvaluated, ListPromise}
 use Rattle.demand.proofs.Runs.{BestLedger}
 use Rattle.demand.proofs.Answers.{SettledRight, smallest-right}
@@ -37,8 +37,8 @@ SearchedBest m =
     (spacing : Spacing) → T (spacingGiven spacing) → (km : ℕ) → km < ceiling (m .globe .grid) → BestCandidate m km (search m spacing km .centre)
 
 -- the questions that a call of the list may be refused by
-abbrev ownQuestions : Map → Ledger → Call → List Question
-ownQuestions m l c =
+abbrev asked : Map → Ledger → Call → List Question
+asked m l c =
     question 7 (buffersFit (m .globe .grid) (c .lent)) ∷ question 9 (shareInRange (c .share)) ∷ question 10 (spacingGiven (c .spacing))
     ∷ question 12 (placesFree l mostRadii) ∷ []
 
@@ -47,15 +47,6 @@ eleven : (p q r s t : Bool) → s ≡ true
     → firstNo (question 7 p ∷ question 9 q ∷ question 10 r ∷ question 11 s ∷ question 12 t ∷ []) ≡ firstNo (question 7 p ∷ question 9 q ∷ question 10 r ∷ question 12 t ∷ [])
 unfolding firstNo
 eleven p q r s t e = rw e
-
--- what the four questions have passed
-passed-own : (p q r s : Bool) → firstNo (question 7 p ∷ question 9 q ∷ question 10 r ∷ question 12 s ∷ []) ≡ 0 → (r ≡ true) × (s ≡ true)
-passed-own p q r s e =
-    let seven = passed-first 6 p (question 9 q ∷ question 10 r ∷ question 12 s ∷ []) e in
-    let nine = passed-first 8 q (question 10 r ∷ question 12 s ∷ []) (seven .1) in
-    let ten = passed-first 9 r (question 12 s ∷ []) (nine .1) in
-    let twelve = passed-first 11 s [] (ten .1) in
-    (ten .0, twelve .0)
 
 -- ---- one call
 
@@ -72,11 +63,11 @@ pub record CallDone (m : Map) (l : Ledger) (c : Call) : Type 0 where
   pub kept : (km : ℕ) → there (get (called m l c .ledger) km) ≡ (there (get l km) || evaluatedAt km (callProbes m l c))
 
 module _ (m : Map) (a : Accepted m) (l : Ledger) (c : Call) where
-  judged : ListLedger m l → called m l c .answer ≡ decide (firstNo (ownQuestions m l c)) (smallest m (c .spacing) (c .share) l .answer)
-  unfolding called smallestCall smallestQuestions
+  judged : ListLedger m l → called m l c .answer ≡ decide (firstNo (asked m l c)) (smallest m (c .spacing) (c .share) l .answer)
+  unfolding called smallestCall smallestQuestions ownQuestions
   judged s =
       ap (λ n. decide n (smallest m (c .spacing) (c .share) l .answer))
-      (map-append m _ (map-passed m (a .asked))
+      (sym (after-map m _ (a .asked) refl)
       ∙ eleven _ _ _ _ _ (in-order (m .globe .grid) l (s .room) (s .best .rising) (s .best .bounded)))
 
   -- the ledger after an answer and after a refusal
@@ -135,12 +126,12 @@ module _ (m : Map) (a : Accepted m) (l : Ledger) (c : Call) where
         same x q = let is : smallest m (c .spacing) (c .share) l .answer ≡ x = cc in rw (← is) answered-right
 
   pub call-done : SearchedBest m → ListLedger m l → CallDone m l c
-  call-done searched s = by (firstNo (ownQuestions m l c)) refl
+  call-done searched s = by (firstNo (asked m l c)) refl
     where
-      by : (n : ℕ) → firstNo (ownQuestions m l c) ≡ n → CallDone m l c
+      by : (n : ℕ) → firstNo (asked m l c) ≡ n → CallDone m l c
       by zero e =
-          let passed = passed-own _ _ _ _ e in
-          answered-done s (passed .1) (judged s ∙ decide-yes _ _ e)
+          let passed = all-yes (asked m l c) refl e .1 .1 in
+          answered-done s (passed .1 .0) (judged s ∙ decide-yes _ _ e)
           (smallest-right m a (c .spacing) (c .share) l (s .best) (searched (c .spacing) (of-true _ (passed .0))))
       by (suc k) e = refused-done s (suc k) (judged s ∙ decide-no _ k _ e ∙ ap refused e)
 

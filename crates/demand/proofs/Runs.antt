@@ -15,8 +15,8 @@ use Rattle.grid.specs.Map.{Map}
 use Rattle.grid.proofs.Answers.{map-passed}
 use Rattle.grid.proofs.Sizes.{grid-sizes}
 use Rattle.kernel.proofs.Populations.{population-exact}
-use Rattle.candidates.specs.declared.Candidate.{Candidate}
 use Rattle.bounds.specs.declared.Spacing.{Spacing}
+use Rattle.candidates.specs.declared.Candidate.{Candidate}
 use Rattle.candidates.specs.Candidate.{centreOf}
 use Rattle.search.specs.Search.{search}
 use Rattle.ledger.specs.declared.Entry.{Entry}

@@ -1,5 +1,5 @@
--- The trace of a run as the climb sees it, whatever the map and the ledger: its probes are those of the climb, at most 28, at distinct kilometres.
-use Prim.Native.Nat.{ℕ, _≤_}
+-- The trace of a run as the climb sees it, whatever the map and the ledger: its probes are those of the climb, at most the most radii.
+use Prim.Native.Nat.{ℕ, suc, _≤_}
 use mathlib.Core.Path.{_≡_, refl, sym, ap, _∙_}
 use mathlib.Core.List.{List, [], _∷_}
 use native.Mathlib.Omega.{arith}
@@ -7,7 +7,7 @@ use lib.ListN.{length}
 use lib.Ieee.{Float}
 use Rattle.lists.specs.Lists.{each}
 use Rattle.lists.proofs.Folds.{length-each}
-use Rattle.lists.proofs.Elements.{AnyOf, Distinct, any-of-each}
+use Rattle.lists.proofs.Elements.{AnyOf, any-of-each}
 use Rattle.grid.specs.Map.{Map}
 use Rattle.grid.proofs.Ceiling.{ceiling-least, ceiling-most}
 use Rattle.bounds.specs.declared.Spacing.{Spacing}
@@ -16,11 +16,10 @@ use Rattle.ledger.specs.declared.Got.{Got}
 use Rattle.ledger.specs.declared.Got.the-variants.{Circle, Nothing}
 use Rattle.ledger.specs.declared.Ledger.{Ledger}
 use Rattle.ledger.specs.Ledger.{get}
-use Rattle.climb.specs.Climb.{Ended, allShort, reachedAt, climbRadii}
+use Rattle.climb.specs.Climb.{Ended, climbRadii}
 use Rattle.climb.proofs.Climb.{Finding, after, findings, Walked, Ends, run-ends}
-use Rattle.measure.specs.Target.{reaches}
+use Rattle.share.specs.Target.{reaches}
 use Rattle.probes.specs.Probes.{mostRadii, Probe, Run, reusedAt, searchedAt, probedWith, probed, latestOf, latest, targetPersons, smallestRun}
-use Rattle.demand.specs.Demand3.{traceOf}
 use Rattle.probes.proofs.States.{starting}
 use Rattle.probes.proofs.RunLoop.{lastKm}
 
@@ -43,22 +42,12 @@ module _ (m : Map) (spacing : Spacing) where
   trace-findings l [] = refl
   trace-findings l (km ∷ kms) = rw (trace-findings l kms) (sym (probed-adds (after (probed m spacing) latest (starting l) kms) km))
 
-  -- the kilometres of the trace are those probed
-  probed-km : (r : Run) (km : ℕ) → each (λ p. p .km) (probed m spacing r km .trace) ≡ km ∷ each (λ p. p .km) (r .trace)
-  unfolding probed probedWith reusedAt searchedAt each
-  probed-km r km = by (get (r .ledger) km)
-    where
-      by : (f : Got) → each (λ p. p .km) (probedWith m spacing r km f .trace) ≡ km ∷ each (λ p. p .km) (r .trace)
-      by (Circle c) = refl
-      by Nothing = refl
-
-  pub trace-kms : (l : Ledger) (kms : List ℕ) → each (λ p. p .km) (after (probed m spacing) latest (starting l) kms .trace) ≡ kms
-  unfolding after each
-  trace-kms l [] = refl
-  trace-kms l (km ∷ kms) = probed-km (after (probed m spacing) latest (starting l) kms) km ∙ ap (λ (ks : List ℕ). km ∷ ks) (trace-kms l kms)
-
   pub length-trace : (l : Ledger) (kms : List ℕ) → length (after (probed m spacing) latest (starting l) kms .trace) ≡ length kms
-  length-trace l kms = sym (length-each (λ p. p .km) (after (probed m spacing) latest (starting l) kms .trace)) ∙ ap length (trace-kms l kms)
+  unfolding after
+  length-trace l [] = refl
+  length-trace l (km ∷ kms) =
+      let r = after (probed m spacing) latest (starting l) kms in
+      sym (length-each findingOf (probed m spacing r km .trace)) ∙ ap length (probed-adds r km) ∙ ap suc (length-each findingOf (r .trace) ∙ length-trace l kms)
 
 -- ---- the end of a run
 
@@ -74,9 +63,6 @@ module _ (m : Map) (spacing : Spacing) (l : Ledger) where
   pub walked-few : (r : Run) (kms : List ℕ) → WalkedTo r kms → length (r .trace) ≤ mostRadii
   walked-few r kms w = rw (w .ends) (omega (arith, length-trace m spacing l kms, w .few))
 
-  pub walked-distinct : (r : Run) (kms : List ℕ) → WalkedTo r kms → Distinct (each (λ p. p .km) (r .trace))
-  walked-distinct r kms w = rw (w .ends, trace-kms m spacing l kms) (w .distinct)
-
   module _ (share : Float) where
     -- where a smallest-radius run ends
     abbrev pub RunEnds : Ended Run Candidate → Type 0
@@ -87,20 +73,3 @@ module _ (m : Map) (spacing : Spacing) (l : Ledger) where
     smallest-ends =
         run-ends (probed m spacing) latest (starting l) (reaches (targetPersons m share)) (lastKm m) (omega (arith, ceiling-least (m .globe .grid)))
         (omega (arith, ceiling-most (m .globe .grid)))
-
-    -- AT MOST 28 PROBES, NO KILOMETRE TWICE, on any map from any ledger
-    pub smallest-few : length (traceOf (smallestRun m spacing share l)) ≤ mostRadii
-    unfolding traceOf
-    smallest-few = by (smallestRun m spacing share l) smallest-ends
-      where
-        by : (e : Ended Run Candidate) → RunEnds e → length (traceOf e) ≤ mostRadii
-        by (allShort r) e = walked-few r (e .trail) (e .walked)
-        by (reachedAt r km c) e = walked-few r (e .trail) (e .walked)
-
-    pub smallest-distinct : Distinct (each (λ p. p .km) (traceOf (smallestRun m spacing share l)))
-    unfolding traceOf
-    smallest-distinct = by (smallestRun m spacing share l) smallest-ends
-      where
-        by : (e : Ended Run Candidate) → RunEnds e → Distinct (each (λ p. p .km) (traceOf e))
-        by (allShort r) e = walked-distinct r (e .trail) (e .walked)
-        by (reachedAt r km c) e = walked-distinct r (e .trail) (e .walked)

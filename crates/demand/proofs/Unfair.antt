@@ -8,8 +8,8 @@ use native.Mathlib.Omega.{arith}
 use lib.Dec.{T, ltb, eqb, ltb→lt, eqb→eq, lit≤, lit<}
 use lib.ListN.{getD}
 use lib.Ieee.Fits.{and-l, and-r}
-use Rattle.floats.specs.Binary.{whole}
 use Rattle.lists.specs.Counted.{allBelow}
+use Rattle.floats.specs.Binary.{whole}
 use Rattle.grid.specs.declared.Cell.{Cell}
 use Rattle.grid.specs.Grid.{cell, onGrid}
 use Rattle.kernel.specs.Circle.{population}

@@ -28,9 +28,9 @@ use Rattle.search.specs.Call.{Buffers, buffersFit, searchCall}
 use Rattle.ledger.specs.declared.Entry.{Entry}
 use Rattle.ledger.specs.declared.Ledger.{Ledger}
 use Rattle.ledger.specs.declared.Got.the-variants.{Circle}
-use Rattle.ledger.specs.Ledger.{entries, get, risingFrom, placesFree}
+use Rattle.ledger.specs.Ledger.{entries, noEntries, get, risingFrom, placesFree}
 use Rattle.climb.specs.Climb.{Ended, allShort, reachedAt}
-use Rattle.measure.specs.Target.{shareInRange}
+use Rattle.share.specs.Target.{shareInRange}
 use Rattle.probes.specs.declared.ShortBelow.{ShortBelow}
 use Rattle.probes.specs.declared.ShortBelow.the-variants as short-case
 use Rattle.probes.specs.declared.Smallest.{Smallest}
@@ -95,7 +95,7 @@ called m l c = smallestCall m (c .spacing) (c .share) l (c .lent)
 
 -- no entries; the places hold anything
 unfoldable pub fresh : List Entry → Ledger
-fresh places = record { len = 0; places = places }
+fresh places = noEntries places
 
 -- the ledger after the calls in turn, each given it as the one before left it, refused or not
 unfoldable pub ledgerAfter : Map → Ledger → List Call → Ledger

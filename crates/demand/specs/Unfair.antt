@@ -5,15 +5,15 @@ use mathlib.Core.List.{[], _∷_}
 use lib.IntN.{negsuc}
 use lib.Ieee.{fin}
 use Rattle.floats.specs.Binary.{whole}
-use Rattle.grid.specs.Grid.{cell}
 use Rattle.grid.specs.Map.{Map}
 use Rattle.grid.specs.Answer.{answered}
+use Rattle.grid.specs.Grid.{cell}
 use Rattle.kernel.specs.Circle.{population}
 use Rattle.bounds.specs.declared.Spacing.the-variants.{Cells}
 use Rattle.candidates.specs.Candidate.{candidateOf}
 use Rattle.levels.specs.Level.{stats, tally}
-use Rattle.search.specs.Search.{mostPopulous}
 use Rattle.search.specs.Call.{searchCall}
+use Rattle.search.specs.Search.{mostPopulous}
 use Rattle.search.specs.Ring.{ringGlobe, ringBuffers}
 use Rattle.demand.specs.Demand3.{Accepted, Fair, Best}
 

@@ -1,2 +1,2 @@
 // Demand 3: its statement in specs/, its theorem in proofs/. It has no code of its own.
-pub fn none() {}
+fn none() {}

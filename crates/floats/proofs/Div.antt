@@ -13,7 +13,10 @@ use borrow.Author.Tests.{ne-eqb}
 use Rattle.floats.specs.Binary.{_⊘_}
 use Rattle.floats.proofs.Round.{+0, round-le}
 use Rattle.floats.proofs.Total.{number, neg-inf-le, le-inf, le-sizes, sizes-le, Le-scale, Le-zero}
-use Rattle.floats.proofs.Mul.{unlike-false}
+
+unlike-false : (s : Bool) → unlike s false ≡ s
+unlike-false true = refl
+unlike-false false = refl
 
 pub above-zero : (k : ℕ) (g : ℤ) → T (lt +0 (fin false k g)) → 0 < k
 unfolding lt

@@ -2,7 +2,7 @@
 use mathlib.Core.Path.{_≡_, refl}
 use mathlib.Core.Bool.{true, false}
 use lib.Ieee.{nan, inf, binary64, neg, toBits, ofBits}
-use Rattle.floats.specs.Binary.{floats, whole, decimal, _⊕_, absolute, greater, lesser, nextUp}
+use Rattle.floats.specs.Binary.{open-floats, whole, decimal, _⊕_, absolute, greater, lesser, nextUp}
 
 pub record Computed : Type 0 where
   pub next-of-zero : toBits binary64 (nextUp (whole 0)) ≡ 1
@@ -25,7 +25,7 @@ pub record Computed : Type 0 where
   pub decimal-sum : toBits binary64 (decimal 1 1 ⊕ decimal 2 1) ≡ 0x3fd3333333333334
 
 pub computed : Computed
-unfolding floats
+unfolding open-floats
 computed = record {
   next-of-zero = refl;
   next-of-minus-zero = refl;

@@ -3,8 +3,8 @@ pub mod Order
 pub mod Round
 pub mod Total
 pub mod Whole
+pub mod Literals
 pub mod Add
-pub mod Mul
 pub mod Div
 pub mod Own
 pub mod Number

@@ -2,12 +2,12 @@
 use Prim.Native.Nat.{ℕ, zero, suc, _+_, _*_, _^_}
 use mathlib.Core.Bool.{Bool, true, false, cond}
 use lib.Dec.{T, ltb}
-use lib.Ieee.{Float, nan, inf, fin, Format, binary64, prec, emax, low, unlike, up, down, odd, units, round, add, mul, div, ofInt, lt, le}
+use lib.Ieee.{Float, nan, inf, fin, Format, binary64, prec, emax, low, up, down, odd, units, round, add, div, lt}
 use lib.Ieee.Fits.{round-is}
 use lib.Ieee.Order.{kept, drop}
-use Rattle.floats.specs.Binary.{whole, _⊕_, _⊗_, _⊘_, finite}
+use Rattle.floats.specs.Binary.{_⊕_, _⊘_, finite}
 use Rattle.floats.proofs.Round.{+0}
-use Rattle.floats.proofs.Total.{number, le-number}
+use Rattle.floats.proofs.Total.{number}
 use Rattle.floats.proofs.Add.{sum-is}
 use Rattle.floats.proofs.Div.{above-zero, div-is}
 
@@ -27,10 +27,6 @@ units-number f s q k = go (ltb (q * 2 ^ k) (2 ^ (low f + suc (emax f))))
 pub round-number : (f : Format) (s : Bool) (a b : ℕ) → T (number (round f s a b))
 round-number f s a b = rw (round-is f s a b) (units-number f s (kept (prec f) (a * 2 ^ low f) b) (drop (prec f) (a * 2 ^ low f) b))
 
-pub whole-number : (n : ℕ) → T (number (whole n))
-unfolding ofInt
-whole-number n = round-number binary64 false n 1
-
 pub add-number : (x c : Float) → T (finite x) → T (number c) → T (number (x ⊕ c))
 unfolding add finite
 add-number nan c X C = absurd X
@@ -40,25 +36,6 @@ add-number (fin s m e) (inf t) X C = tt
 add-number (fin s m e) (fin t n d) X C =
     let r = sum-is binary64 s (m * up e * down d) t (n * up d * down e) (down e * down d) in
     rw (r .rounded) (round-number binary64 (r .sign) (r .size) (down e * down d))
-
--- neither below zero, an infinity included
-pub add-number-up : (x c : Float) → T (le +0 x) → T (le +0 c) → T (number (x ⊕ c))
-unfolding add le finite
-add-number-up nan c X C = absurd X
-add-number-up (inf true) c X C = absurd X
-add-number-up (inf false) nan X C = absurd C
-add-number-up (inf false) (inf true) X C = absurd C
-add-number-up (inf false) (inf false) X C = tt
-add-number-up (inf false) (fin t n d) X C = tt
-add-number-up (fin s m e) c X C = add-number (fin s m e) c tt (le-number +0 c C .1)
-
-pub mul-number : (x c : Float) → T (finite x) → T (finite c) → T (number (x ⊗ c))
-unfolding mul finite
-mul-number nan c X C = absurd X
-mul-number (inf s) c X C = absurd X
-mul-number (fin s m e) nan X C = absurd C
-mul-number (fin s m e) (inf t) X C = absurd C
-mul-number (fin s m e) (fin t n d) X C = round-number binary64 (unlike s t) (m * up e * (n * up d)) (down e * down d)
 
 pub div-number : (x c : Float) → T (number x) → T (finite c) → T (lt +0 c) → T (number (x ⊘ c))
 unfolding div lt finite

@@ -6,11 +6,10 @@ use native.Mathlib.Omega.{arith}
 use native.Mathlib.Nat.{zero-mul, mul-pos, zero-lt-suc}
 use lib.IntN.{pos}
 use lib.Dec.{T, ltb}
-use lib.Ieee.{Float, nan, inf, fin, Format, binary32, binary64, prec, emax, low, up, down, odd, units, round, neg, le, ofBits, ofInt}
+use lib.Ieee.{Float, nan, inf, fin, Format, binary32, binary64, prec, emax, low, up, down, odd, units, round, neg, le, ofBits}
 use lib.Ieee.Fits.{round-is}
 use lib.Ieee.Order.{round-mono, kept, drop}
 use lib.Ieee.Scale.{round-same}
-use Rattle.floats.specs.Binary.{whole}
 use Rattle.floats.proofs.Order.{plusOf, minusOf, ordered, tested, le-trans}
 
 -- ±a ≤ ±b
@@ -90,11 +89,6 @@ zeros⁻ = tt
 zero-of : (a d : ℕ) → 0 < d → a * d ≡ 0 → a ≡ 0
 zero-of zero d D e = refl
 zero-of (suc a) d D e = let p = mul-pos {m = suc a} {n = d} (zero-lt-suc a) D in absurd (omega arith)
-
--- the whole number 0
-pub zero-whole : whole 0 ≡ +0
-unfolding ofInt
-zero-whole = round-zero-one binary64
 
 -- ---- the law
 pub round-le : (f : Format) (s : Bool) (a b : ℕ) (t : Bool) (c d : ℕ) → 0 < b → 0 < d → Le s (a * d) t (c * b) → T (le (round f s a b) (round f t c d))

@@ -1,5 +1,4 @@
 -- The numbers among the floats (all but `nan`) are ordered: each is at most itself, of two one is at most the other, and the infinities are the ends.
---
 use Prim.Native.Nat.{ℕ, _+_, _*_}
 use mathlib.Core.Path.{_≡_}
 use mathlib.Core.Bool.{Bool, true, false, not, _||_, Bool·beq}
@@ -130,23 +129,6 @@ pub le-of-eq : (x y : Float) → T (eq x y) → T (le x y)
 unfolding le
 le-of-eq x y h = or-right (lt x y) (eq x y) h
 
--- ---- `lt` with `le`
-
-of-not-not : (b : Bool) → (T (not b) → ⊥) → T b
-of-not-not true n = tt
-of-not-not false n = absurd (n tt)
-
-pub lt-number : (x y : Float) → T (lt x y) → T (number x) × T (number y)
-lt-number x y h = le-number x y (le-of-lt x y h)
-
-pub lt-of-le-of-lt : (x y z : Float) → T (le x y) → T (lt y z) → T (lt x z)
-lt-of-le-of-lt x y z h k =
-    of-not-not (lt x z) (λ n. lt-not-le y z k (le-trans z x y (le-of-not-lt z x (lt-number y z k .1) (le-number x y h .0) n) h))
-
-pub lt-of-lt-of-le : (x y z : Float) → T (lt x y) → T (le y z) → T (lt x z)
-lt-of-lt-of-le x y z h k =
-    of-not-not (lt x z) (λ n. lt-not-le x y h (le-trans y z x k (le-of-not-lt z x (le-number y z k .1) (lt-number x y h .0) n)))
-
 -- ---- two values that compare equal
 
 level-sizes : (s : Bool) (a : ℕ) (t : Bool) (b : ℕ) → T (level s a t b) → Le t b s a
@@ -181,6 +163,3 @@ eq-le x y h = (le-of-eq x y h, eq-ge x y h)
 -- no comparison tells them apart
 pub le-same-right : (x y : Float) → T (le x y) → T (le y x) → (a : Float) → le a x ≡ le a y
 le-same-right x y h k a = same-test (le a x) (le a y) (λ l. le-trans a x y l h) (λ l. le-trans a y x l k)
-
-pub le-same-left : (x y : Float) → T (le x y) → T (le y x) → (a : Float) → le x a ≡ le y a
-le-same-left x y h k a = same-test (le x a) (le y a) (λ l. le-trans y x a k l) (λ l. le-trans x y a h l)

@@ -10,9 +10,7 @@ use lib.Ieee.Fits.{down-pos}
 use lib.Ieee.Exact.{HasValue}
 use lib.Ieee.Back.{round-whole}
 use lib.Ieee.Order.{round-mono}
-use native.Mathlib.Decide.{decLe}
 use Rattle.floats.specs.Binary.{whole}
-use Rattle.floats.proofs.Total.{lt-not-le}
 
 pub whole-value : (n : ℕ) → n ≤ 2 ^ 53 → HasValue (whole n) false n 1
 unfolding ofInt
@@ -43,7 +41,3 @@ lt-of-values (fin false m e) (fin false n' d) n k p q h =
 
 pub whole-lt : (n k : ℕ) → n < k → k ≤ 2 ^ 53 → T (lt (whole n) (whole k))
 whole-lt n k h b = lt-of-values (whole n) (whole k) n k (whole-value n (omega arith)) (whole-value k b) h
-
--- and only so
-pub whole-order : (n k : ℕ) → n ≤ 2 ^ 53 → T (le (whole n) (whole k)) → n ≤ k
-whole-order n k b h = elim (decLe n k) [ yes g ↦ g | no g ↦ absurd (lt-not-le (whole k) (whole n) (whole-lt k n (omega arith) b) h) ]

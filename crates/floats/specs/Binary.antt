@@ -13,6 +13,7 @@ decimal n k = round binary64 false n (10 ^ k)
 abbrev pub whole : ℕ → Float
 whole n = ofInt binary64 (pos n)
 
+-- the operators, each rounded to the nearest value
 infixl 65 _⊕_ _⊖_
 infixl 70 _⊗_ _⊘_
 abbrev pub _⊕_ : Float → Float → Float
@@ -27,6 +28,7 @@ x ⊗ y = mul binary64 x y
 abbrev pub _⊘_ : Float → Float → Float
 x ⊘ y = div binary64 x y
 
+-- neither NaN nor infinite
 unfoldable pub finite : Float → Bool
 finite nan = false
 finite (inf s) = false
@@ -60,6 +62,6 @@ nextUp (fin s m e) =
     cond zero (ofBits binary64 1) (ofBits binary64 (nextBits s (toBits binary64 x)))
 
 -- opens all of the above, for facts that are computed
-unfoldable pub floats : Unit {0}
+unfoldable pub open-floats : Unit {0}
 unfolding decimal round add sub mul div ofInt ofBits toBits finite absolute greater lesser nextBits nextUp lt le eq
-floats = tt
+open-floats = tt

@@ -5,12 +5,17 @@ ghost use lib.Ieee as Ieee;
 ghost use lib.Ieee.{binary64, ofBits, nanBits};
 ghost use mathlib.Core.Bool.{false};
 
+// The distance from 1 to the next value up: 2 to the power of -52.
+pub const EPSILON: f64 = 2.220446049250313e-16;
+
+// An infinite constant is refused, so it is computed.
 fn infinity() -> f64
     ensures { λ r. ⌜ r ≡ Ieee.inf false ⌝ }
 {
     1.0 / 0.0
 }
 
+// Neither NaN nor infinite.
 pub fn is_finite(x: f64) -> bool
     ensures { λ r. ⌜ r ≡ finite x ⌝ }
 {
@@ -18,7 +23,7 @@ pub fn is_finite(x: f64) -> bool
     if x < top { -top < x } else { false }
 }
 
-// The sign of zero is cleared too.
+// The magnitude. The sign of zero is cleared too, as IEEE 754 has it.
 pub fn abs(x: f64) -> f64
     ensures { λ r. ⌜ r ≡ absolute x ⌝ }
 {
@@ -31,18 +36,21 @@ pub fn abs(x: f64) -> f64
     x
 }
 
+// The greater of two; the first where they are equal or one is NaN.
 pub fn greater(x: f64, y: f64) -> f64
     ensures { λ r. ⌜ r ≡ greater x y ⌝ }
 {
     if x < y { y } else { x }
 }
 
+// The lesser of two; the first where they are equal or one is NaN.
 pub fn lesser(x: f64, y: f64) -> f64
     ensures { λ r. ⌜ r ≡ lesser x y ⌝ }
 {
     if y < x { y } else { x }
 }
 
+// The least value that compares greater: one more in the bits above 0, one less below 0. NaN and +infinity stay.
 pub fn next_up(x: f64) -> f64
     ensures { λ r. ⌜ r ≡ nextUp x ⌝ }
 {

@@ -1,46 +1,120 @@
--- Laws of questions and refusals: the first "no" of a list, and what an accepted map has passed.
-use Prim.Native.Nat.{ℕ, zero, suc, _<_}
-use mathlib.Core.Path.{_≡_, refl, sym, ap, _∙_}
-use mathlib.Core.Bool.{Bool, true, false, cond}
+-- Laws of questions and refusals: the first "no" of a list, what a list without one says, and what an accepted map has passed.
+use Prim.Native.Nat.{ℕ, zero, suc}
+use mathlib.Core.Path.{_≡_, refl, sym, _∙_}
+use mathlib.Core.Bool.{Bool, true, false, cond, _&&_}
 use mathlib.Core.List.{List, [], _∷_, _++_}
 use native.Mathlib.Omega.{arith}
-use Rattle.grid.specs.Map.{Map}
-use Rattle.grid.specs.Answer.{Question, question, firstNo, Answer, answered, refused, decide, after, shown}
-use Rattle.grid.specs.Questions.{sizesInRange, latitudesInRange, columnsClose, countsComplete, sheetComplete, sheetInOrder, gridQuestions, mapQuestions}
+use lib.Dec.{ltb}
+use borrow.Author.Tests.{ltb-true}
+use Rattle.lists.proofs.Bools.{and-left, and-right}
 use Rattle.grid.specs.declared.Grid.{Grid}
+use Rattle.grid.specs.Map.{Map}
+use Rattle.grid.specs.Answer.{Question, question, firstNo, answered, refused, decide}
+use Rattle.grid.specs.Questions.{sizesInRange, latitudesInRange, columnsClose, countsComplete, sheetComplete, sheetInOrder, gridQuestions, sheetQuestions, mapQuestions}
 
--- a question that is answered "yes" is passed over, and one that is answered "no" gives its number
-pub firstNo-yes : (n : ℕ) (b : Bool) (qs : List Question) → b ≡ true → firstNo (question n b ∷ qs) ≡ firstNo qs
-unfolding firstNo
-firstNo-yes n b qs e = rw e
+-- ---- question by question: a "yes" leaves the rest to decide, a "no" gives its number, and where nothing is left there is no refusal
 
-pub firstNo-no : (n : ℕ) (b : Bool) (qs : List Question) → b ≡ false → firstNo (question n b ∷ qs) ≡ n
+pub asked-yes : {n : ℕ} {b : Bool} (k : ℕ) (qs : List Question) → b ≡ true → n ≡ firstNo qs → n ≡ firstNo (question k b ∷ qs)
 unfolding firstNo
-firstNo-no n b qs e = rw e
+asked-yes k qs e h = rw e h
 
--- where the first "no" is 0, a question with a number above 0 was answered "yes"
-pub passed-first : (n : ℕ) (b : Bool) (qs : List Question) → firstNo (question (suc n) b ∷ qs) ≡ 0 → (b ≡ true) × (firstNo qs ≡ 0)
+pub asked-no : {n : ℕ} {b : Bool} (qs : List Question) → b ≡ false → n ≡ firstNo (question n b ∷ qs)
 unfolding firstNo
-passed-first n true qs e = (refl, e)
-passed-first n false qs e = absurd (omega (arith, e))
+asked-no qs e = rw e
 
--- a refusal among the first questions stands, whatever follows
-pub refused-append : (n : ℕ) (ps qs : List Question) → firstNo ps ≡ suc n → firstNo (ps ++ qs) ≡ suc n
+pub asked-none : 0 ≡ firstNo []
 unfolding firstNo
-refused-append n [] qs e = absurd (omega (arith, e))
-refused-append n (p ∷ ps) qs e = go (p .yes) (refused-append n ps qs) e
+asked-none = refl
+
+-- ---- list by list
+
+-- every number is above 0
+abbrev pub numbered : List Question → Bool
+numbered [] = true
+numbered (q ∷ qs) = ltb 0 (q .number) && numbered qs
+
+-- every question is answered "yes"
+abbrev pub AllYes : List Question → Type 0
+AllYes [] = Unit {0}
+AllYes (q ∷ qs) = (q .yes ≡ true) × AllYes qs
+
+-- then there is no refusal, and the other way round
+pub yes-all : (qs : List Question) → AllYes qs → 0 ≡ firstNo qs
+yes-all [] ys = asked-none
+yes-all (q ∷ qs) ys = asked-yes (q .number) qs (ys .0) (yes-all qs (ys .1))
+
+pub all-yes : (qs : List Question) → numbered qs ≡ true → firstNo qs ≡ 0 → AllYes qs
+unfolding firstNo
+all-yes [] h e = tt
+all-yes (q ∷ qs) h e = go (q .yes) (all-yes qs (and-right (ltb 0 (q .number)) (numbered qs) h)) e
   where
-    go : (b : Bool) → (firstNo ps ≡ suc n → firstNo (ps ++ qs) ≡ suc n) → cond b (firstNo ps) (p .number) ≡ suc n
-        → cond b (firstNo (ps ++ qs)) (p .number) ≡ suc n
-    go true more h = more h
-    go false more h = h
+    go : (b : Bool) → (firstNo qs ≡ 0 → AllYes qs) → cond b (firstNo qs) (q .number) ≡ 0 → (b ≡ true) × AllYes qs
+    go true more z = (refl, more z)
+    go false more z = absurd (omega (arith, z, ltb-true 0 (q .number) (and-left (ltb 0 (q .number)) (numbered qs) h)))
 
--- ---- what an accepted grid and an accepted map have passed
+-- one list after another: a refusal by the first stands, and without one the second decides
+module _ (ps qs : List Question) where
+  after-yes : AllYes ps → firstNo qs ≡ firstNo (ps ++ qs)
+  after-yes = go ps
+    where
+      go : (ps : List Question) → AllYes ps → firstNo qs ≡ firstNo (ps ++ qs)
+      go [] ys = refl
+      go (p ∷ ps) ys = asked-yes (p .number) (ps ++ qs) (ys .0) (go ps (ys .1))
+
+  refused-first : (n : ℕ) → firstNo ps ≡ suc n → firstNo (ps ++ qs) ≡ suc n
+  unfolding firstNo
+  refused-first n = go ps
+    where
+      go : (ps : List Question) → firstNo ps ≡ suc n → firstNo (ps ++ qs) ≡ suc n
+      go [] e = absurd (omega (arith, e))
+      go (p ∷ ps) e = by (p .yes) (go ps) e
+        where
+          by : (b : Bool) → (firstNo ps ≡ suc n → firstNo (ps ++ qs) ≡ suc n) → cond b (firstNo ps) (p .number) ≡ suc n
+              → cond b (firstNo (ps ++ qs)) (p .number) ≡ suc n
+          by true more h = more h
+          by false more h = h
+
+  pub refused-before : {n : ℕ} → n ≡ firstNo ps → (n ≡ 0 → ⊥) → n ≡ firstNo (ps ++ qs)
+  refused-before {n} e h = go n e h
+    where
+      go : (n : ℕ) → n ≡ firstNo ps → (n ≡ 0 → ⊥) → n ≡ firstNo (ps ++ qs)
+      go zero e h = absurd (h refl)
+      go (suc n) e h = sym (refused-first n (sym e))
+
+  pub asked-after : {n : ℕ} → numbered ps ≡ true → firstNo ps ≡ 0 → n ≡ firstNo qs → n ≡ firstNo (ps ++ qs)
+  asked-after h e q = q ∙ after-yes (all-yes ps h e)
+
+  pub none-before : firstNo (ps ++ qs) ≡ 0 → firstNo ps ≡ 0
+  none-before e = go (firstNo ps) refl
+    where
+      go : (n : ℕ) → firstNo ps ≡ n → n ≡ 0
+      go zero z = refl
+      go (suc n) z = absurd (omega (arith, refused-first n z, e))
+
+-- ---- the grid's questions, and what an accepted grid has passed
 
 pub record PassedGrid (g : Grid) : Type 0 where
   pub sizes : sizesInRange g ≡ true
   pub latitudes : latitudesInRange g ≡ true
   pub columns : columnsClose g ≡ true
+
+module _ (g : Grid) where
+  pub grid-passed : firstNo (gridQuestions g) ≡ 0 → PassedGrid g
+  unfolding gridQuestions
+  grid-passed e = let ys = all-yes (gridQuestions g) refl e in record { sizes = ys .0; latitudes = ys .1 .0; columns = ys .1 .1 .0 }
+
+  -- what is asked after the grid's questions
+  module _ (own : List Question) where
+    pub after-grid : {n : ℕ} → firstNo (gridQuestions g) ≡ 0 → n ≡ firstNo own → n ≡ firstNo (gridQuestions g ++ own)
+    unfolding gridQuestions
+    after-grid = asked-after (gridQuestions g) own refl
+
+    pub grid-then : numbered own ≡ true → firstNo (gridQuestions g ++ own) ≡ 0 → PassedGrid g × AllYes own
+    grid-then h e =
+        let none = none-before (gridQuestions g) own e in
+        (grid-passed none, all-yes own h (after-grid none refl ∙ e))
+
+-- ---- the map's questions, and what an accepted map has passed
 
 pub record Passed (m : Map) : Type 0 where
   pub grid : PassedGrid (m .globe .grid)
@@ -48,31 +122,23 @@ pub record Passed (m : Map) : Type 0 where
   pub sheet : sheetComplete (m .globe) ≡ true
   pub order : sheetInOrder (m .globe) ≡ true
 
-pub grid-passed : (g : Grid) (qs : List Question) → firstNo (gridQuestions g ++ qs) ≡ 0 → PassedGrid g × (firstNo qs ≡ 0)
-unfolding gridQuestions
-grid-passed g qs e =
-    let one = passed-first 0 (sizesInRange g) (question 2 (latitudesInRange g) ∷ question 3 (columnsClose g) ∷ qs) e in
-    let two = passed-first 1 (latitudesInRange g) (question 3 (columnsClose g) ∷ qs) (one .1) in
-    let three = passed-first 2 (columnsClose g) qs (two .1) in
-    (record { sizes = one .0; latitudes = two .0; columns = three .0 }, three .1)
+module _ (m : Map) where
+  pub map-passed : firstNo (mapQuestions m) ≡ 0 → Passed m
+  unfolding mapQuestions sheetQuestions
+  map-passed e =
+      let all = grid-then (m .globe .grid) (question 4 (countsComplete m) ∷ sheetQuestions (m .globe)) refl e in
+      record { grid = all .0; counts = all .1 .0; sheet = all .1 .1 .0; order = all .1 .1 .1 .0 }
 
-pub map-passed : (m : Map) → firstNo (mapQuestions m) ≡ 0 → Passed m
-unfolding mapQuestions
-map-passed m e =
-    let first = grid-passed (m .globe .grid) (question 4 (countsComplete m) ∷ question 5 (sheetComplete (m .globe)) ∷ question 6 (sheetInOrder (m .globe)) ∷ []) e in
-    let four = passed-first 3 (countsComplete m) (question 5 (sheetComplete (m .globe)) ∷ question 6 (sheetInOrder (m .globe)) ∷ []) (first .1) in
-    let five = passed-first 4 (sheetComplete (m .globe)) (question 6 (sheetInOrder (m .globe)) ∷ []) (four .1) in
-    let six = passed-first 5 (sheetInOrder (m .globe)) [] (five .1) in
-    record { grid = first .0; counts = four .0; sheet = five .0; order = six .0 }
+  -- what is asked after the map's questions
+  module _ (own : List Question) where
+    pub after-map : {n : ℕ} → firstNo (mapQuestions m) ≡ 0 → n ≡ firstNo own → n ≡ firstNo (mapQuestions m ++ own)
+    unfolding mapQuestions gridQuestions sheetQuestions
+    after-map = asked-after (mapQuestions m) own refl
 
--- what passed leaves the rest to decide
-pub grid-append : (g : Grid) (qs : List Question) → PassedGrid g → firstNo (gridQuestions g ++ qs) ≡ firstNo qs
-unfolding gridQuestions firstNo
-grid-append g qs p = rw (p .sizes, p .latitudes, p .columns)
-
-pub map-append : (m : Map) (qs : List Question) → Passed m → firstNo (mapQuestions m ++ qs) ≡ firstNo qs
-unfolding mapQuestions gridQuestions firstNo
-map-append m qs p = rw (p .grid .sizes, p .grid .latitudes, p .grid .columns, p .counts, p .sheet, p .order)
+    pub map-then : numbered own ≡ true → firstNo (mapQuestions m ++ own) ≡ 0 → Passed m × AllYes own
+    map-then h e =
+        let none = none-before (mapQuestions m) own e in
+        (map-passed none, all-yes own h (after-map none refl ∙ e))
 
 -- ---- what a decision leaves
 

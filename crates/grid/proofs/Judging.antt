@@ -8,12 +8,12 @@ use native.Mathlib.Decide.{decLt}
 use native.Mathlib.Nat.{add-zero, zero-mul, suc-mul, add-mul}
 use native.Mathlib.Numerals.{add-one}
 use lib.Dec.{ltb, eqb}
-use lib.ListN.{length, getD, take, drop, take-append-drop, length-drop}
+use lib.ListN.{length, take, drop, take-append-drop, length-drop}
 use lib.Seq.{getD-drop, take-length, length-take-le}
 use lib.Arith.{digits-lt}
 use lib.Ieee.{Float, nan, inf, fin, le, eq}
 use borrow.Author.Tests.{lt-ltb, le-ltb, eqb-true, eq-eqb, ne-eqb}
-use Rattle.floats.specs.Binary.{whole, finite, floats}
+use Rattle.floats.specs.Binary.{whole, finite, open-floats}
 use Rattle.lists.specs.Counted.{allBelow}
 use Rattle.lists.specs.Lists.{fold}
 use Rattle.lists.proofs.Bools.{cases, and-both, and-left, and-right, and-no}
@@ -22,10 +22,11 @@ use Rattle.lists.proofs.Folds.{fold-append, fold-more}
 use Rattle.grid.specs.declared.Grid.{Grid}
 use Rattle.grid.specs.declared.SheetJudge.{SheetJudge}
 use Rattle.grid.specs.Numbers.{π}
-use Rattle.grid.specs.Grid.{closing}
-use Rattle.grid.specs.Map.{Globe, sheetIndex, angleAt, cosineAt}
+use Rattle.grid.specs.Grid.{closing, angleCount}
+use Rattle.grid.specs.Map.{Globe, sheetIndex, angleAt, cosineAt, globeOf, sheetOf}
 use Rattle.grid.specs.Questions.{everyRow, everyPair, angle, cosineInRange, cosinesInRange, angleInRange, anglesInRange, ownAngleZero, angleRises, anglesRise, rowRises, rowsRise, sheetInOrder}
-use Rattle.grid.specs.Sheet.{anglesOf, judgeStart, ownFits, rowFits, headFits, nextRow, nextPlace, judgeFeed, judged, NextRun}
+use Rattle.grid.specs.Judge.{judgeStart, ownFits, rowFits, headFits, nextRow, nextPlace, judgeFeed, judged}
+use Rattle.grid.specs.Requires.{NextRun}
 use Rattle.grid.proofs.General.{same-true}
 use Rattle.grid.proofs.Runs.{ranged, risen, asked, asked-all, all-head, all-ranged, all-risen, run-well, run-fed}
 
@@ -66,7 +67,7 @@ judged-no g xs n e =
 
 -- NaN and the infinities are out of range
 unbounded : (a : Float) → finite a ≡ false → (le (whole 0) a && le a π) ≡ false
-unfolding floats
+unfolding open-floats
 unbounded nan e = refl
 unbounded (inf true) e = refl
 unbounded (inf false) e = refl
@@ -96,7 +97,7 @@ module _ (s : Globe) where
 
 module _ (g : Grid) (xs : List Float) where
   abbrev s : Globe
-  s = anglesOf g xs
+  s = sheetOf g xs
 
   abbrev h : ℕ
   h = g .height
@@ -276,7 +277,7 @@ module _ {g : Grid} {xs : List Float} {at : ℕ} {j : SheetJudge} (B : Between g
   grid-here : j .grid ≡ g
   grid-here = ap (λ j. j .grid) here
 
-  module _ (size : length xs ≡ g .height * g .height * (closing g + 1)) where
+  module _ (size : length xs ≡ angleCount g) where
     -- past the last run the verdict is the sheet's
     pub between-end : g .height ≤ j .centre → judged g xs ≡ j .well
     unfolding judged
@@ -315,8 +316,8 @@ module _ {g : Grid} {xs : List Float} {at : ℕ} {j : SheetJudge} (B : Between g
       abbrev next : SheetJudge
       next = fold judgeFeed j (take (closing g + 1) (drop at xs))
 
-      run-next : next ≡ nextRow (standing g xs (j .centre) (j .row)) (angle (anglesOf g xs) (j .centre) (j .row) (closing g)) (angle (anglesOf g xs) (j .centre) (j .row) 0)
-          (standing g xs (j .centre) (j .row) .well && rowWell (anglesOf g xs) (j .centre) (j .row))
+      run-next : next ≡ nextRow (standing g xs (j .centre) (j .row)) (angle (sheetOf g xs) (j .centre) (j .row) (closing g)) (angle (sheetOf g xs) (j .centre) (j .row) 0)
+          (standing g xs (j .centre) (j .row) .well && rowWell (sheetOf g xs) (j .centre) (j .row))
       run-next =
           ap (λ j. fold judgeFeed j (take (closing g + 1) (drop at xs))) here
           ∙ ap (λ n. fold judgeFeed (standing g xs (j .centre) (j .row)) (take (closing g + 1) (drop n xs))) (B .place)
@@ -403,20 +404,20 @@ module _ (s : Globe) where
       (λ e. parts-of (λ c r hc hr. all-rows-at rows (λ c. rows) (rowWell s) c r e hc hr))
 
 -- what the judge says of a whole sheet is question 6 of its angles
-pub judge-says : (g : Grid) (xs : List Float) → length xs ≡ g .height * g .height * (closing g + 1)
-    → judged g xs ≡ (anglesInRange (anglesOf g xs) && ownAngleZero (anglesOf g xs) && anglesRise (anglesOf g xs) && rowsRise (anglesOf g xs))
-judge-says g xs size = judged-all g xs size ∙ sym (by-rows (anglesOf g xs))
+pub judge-says : (g : Grid) (xs : List Float) → length xs ≡ angleCount g
+    → judged g xs ≡ (anglesInRange (sheetOf g xs) && ownAngleZero (sheetOf g xs) && anglesRise (sheetOf g xs) && rowsRise (sheetOf g xs))
+judge-says g xs size = judged-all g xs size ∙ sym (by-rows (sheetOf g xs))
 
 and-five : (a b c d e : Bool) → (a && b && c && d && e) ≡ (a && (b && c && d && e))
 and-five true b c d e = refl
 and-five false b c d e = refl
 
 -- question 6, as the code reads it: the cosines by themselves, then the angles
-pub order-as-read : (g : Grid) (angles cosines : List Float) → length angles ≡ g .height * g .height * (closing g + 1)
-    → sheetInOrder (record { grid = g; angles = angles; cosines = cosines })
-    ≡ (cosinesInRange (record { grid = g; angles = []; cosines = cosines }) && judged g angles)
+pub order-as-read : (g : Grid) (angles cosines : List Float) → length angles ≡ angleCount g
+    → sheetInOrder (globeOf g angles cosines)
+    ≡ (cosinesInRange (globeOf g [] cosines) && judged g angles)
 unfolding sheetInOrder everyRow everyPair cosineInRange cosinesInRange cosineAt anglesInRange ownAngleZero anglesRise rowsRise angleInRange angleRises rowRises angleAt
 order-as-read g angles cosines size =
-    let s = anglesOf g angles in
+    let s = sheetOf g angles in
     rw (judge-says g angles size)
-    (and-five (cosinesInRange (record { grid = g; angles = []; cosines = cosines })) (anglesInRange s) (ownAngleZero s) (anglesRise s) (rowsRise s))
+    (and-five (cosinesInRange (globeOf g [] cosines)) (anglesInRange s) (ownAngleZero s) (anglesRise s) (rowsRise s))

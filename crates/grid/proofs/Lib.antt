@@ -7,7 +7,6 @@ pub mod General
 pub mod Index
 pub mod Judging
 pub mod Literals
-pub mod Passed
 pub mod Runs
 pub mod SheetOrder
 pub mod Sizes

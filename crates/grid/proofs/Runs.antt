@@ -19,7 +19,9 @@ use Rattle.lists.proofs.Folds.{fold-append}
 use Rattle.grid.specs.declared.SheetJudge.{SheetJudge}
 use Rattle.grid.specs.Numbers.{π}
 use Rattle.grid.specs.Grid.{closing}
-use Rattle.grid.specs.Sheet.{headFits, angleFits, headAfter, nextRow, nextPlace, judgeFeed, notFalling, runFits, runAhead, NextRun}
+use Rattle.grid.specs.Judge.{headFits, angleFits, headAfter, nextRow, nextPlace, judgeFeed}
+use Rattle.grid.specs.State.{notFalling, runFits, runAhead}
+use Rattle.grid.specs.Requires.{NextRun}
 use Rattle.grid.proofs.General.{same-true, at-least-first, at-most-last}
 
 -- ---- what is asked of the angles f 0, f 1 .. of a run, and of the first by its row

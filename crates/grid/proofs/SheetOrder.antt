@@ -1,20 +1,19 @@
 -- What question 6 gives of a sheet: the offsets of a row within an angle are its first ones, and the rows whose nearest cell is within it are
 -- one band around the centre row. For every size.
 use Prim.Native.Nat.{ℕ, zero, suc, _+_, _-_, _≤_, _<_}
-use mathlib.Core.Path.{_≡_, sym, _∙_}
+use mathlib.Core.Path.{_≡_}
 use mathlib.Core.Logic.{_⊎_, inl, inr}
-use mathlib.Core.Bool.{true, false, _&&_}
+use mathlib.Core.Bool.{true, _&&_}
 use native.Mathlib.Nat.{add-zero, add-assoc}
 use native.Mathlib.Omega.{arith}
-use native.Mathlib.Decide.{decLe}
-use lib.Dec.{T, leb}
-use lib.Ieee.{Float, le, eq}
-use borrow.Author.Tests.{lt-ltb, le-ltb, le-leb, lt-leb}
+use lib.Dec.{T}
+use lib.Ieee.{Float, le}
+use borrow.Author.Tests.{lt-ltb, le-ltb}
 use Rattle.floats.specs.Binary.{whole}
 use Rattle.floats.proofs.Order.{le-trans}
 use Rattle.floats.proofs.Total.{number, le-number, le-refl}
 use Rattle.lists.specs.Counted.{allBelow}
-use Rattle.lists.proofs.Bools.{is-true, of-true, is-false, not-both, and-left, and-right}
+use Rattle.lists.proofs.Bools.{is-true, of-true, and-left, and-right}
 use Rattle.lists.proofs.All.{all-at, all-rows-at}
 use Rattle.grid.specs.Numbers.{π}
 use Rattle.grid.specs.Grid.{closing}
@@ -59,11 +58,6 @@ in-order s e =
     }
 
 module _ (s : Globe) (q : InOrder s) (c : ℕ) (C : c < s .grid .height) where
-  -- the centre row's own angle at offset 0 is 0
-  pub own-zero : T (eq (angle s c c 0) (whole 0))
-  unfolding ownAngleZero everyRow
-  own-zero = of-true (eq (angle s c c 0) (whole 0)) (all-at (s .grid .height) (λ r. eq (angle s r r 0) (whole 0)) c (q .own) C)
-
   module _ (r : ℕ) (R : r < s .grid .height) where
     in-range : (k : ℕ) → k ≤ closing (s .grid) → angleInRange s c r k ≡ true
     unfolding anglesInRange everyPair everyRow
@@ -100,18 +94,6 @@ module _ (s : Globe) (q : InOrder s) (c : ℕ) (C : c < s .grid .height) where
     -- so the offsets within an angle are the first ones of the row
     pub offsets-first : (a : Float) (j k : ℕ) → j ≤ k → k ≤ closing (s .grid) → le (angle s c r k) a ≡ true → le (angle s c r j) a ≡ true
     offsets-first a j k h l t = carried (angle s c r j) (angle s c r k) a (offsets-rise j k h l) t
-
-    pub offsets-last : (a : Float) (j k : ℕ) → j ≤ k → k ≤ closing (s .grid) → le (angle s c r j) a ≡ false → le (angle s c r k) a ≡ false
-    offsets-last a j k h l e =
-        is-false (le (angle s c r k) a) (λ t. not-both (le (angle s c r j) a) (offsets-first a j k h l (is-true (le (angle s c r k) a) t)) e)
-
-    -- a half width, the last offset within an angle, says of each offset whether it is within
-    pub half-width : (a : Float) (h : ℕ) → h ≤ closing (s .grid) → le (angle s c r h) a ≡ true
-        → (h < closing (s .grid) → le (angle s c r (h + 1)) a ≡ false) → (k : ℕ) → k ≤ closing (s .grid) → le (angle s c r k) a ≡ leb k h
-    half-width a h H last next k K = elim (decLe k h) [
-      | yes p ↦ offsets-first a k h p H last ∙ sym (le-leb k h p)
-      | no p ↦ offsets-last a (h + 1) k (omega arith) K (next (omega arith)) ∙ sym (lt-leb k h (omega arith))
-    ]
 
   next-row : (r : ℕ) → r + 1 < s .grid .height → rowRises s c r ≡ true
   unfolding rowsRise everyRow
@@ -152,7 +134,3 @@ module _ (s : Globe) (q : InOrder s) (c : ℕ) (C : c < s .grid .height) where
   pub rows-band : (a : Float) (r t : ℕ) → t < s .grid .height → (c ≤ r × r ≤ t) ⊎ (t ≤ r × r ≤ c) → le (angle s c t 0) a ≡ true → le (angle s c r 0) a ≡ true
   rows-band a r t h (inl p) i = carried (angle s c r 0) (angle s c t 0) a (rows-south r t (p .0) (p .1) h) i
   rows-band a r t h (inr p) i = carried (angle s c r 0) (angle s c t 0) a (rows-north r t (p .0) (p .1)) i
-
-  pub rows-beyond : (a : Float) (r t : ℕ) → t < s .grid .height → (c ≤ r × r ≤ t) ⊎ (t ≤ r × r ≤ c) → le (angle s c r 0) a ≡ false → le (angle s c t 0) a ≡ false
-  rows-beyond a r t h side e =
-      is-false (le (angle s c t 0) a) (λ i. not-both (le (angle s c r 0) a) (rows-band a r t h side (is-true (le (angle s c t 0) a) i)) e)

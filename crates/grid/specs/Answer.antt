@@ -38,6 +38,6 @@ module _ {A : Type 0} where
   shown (refused n) words = words
 
 -- opens all of the above, for facts that are computed
-unfoldable pub answers : Unit {0}
+unfoldable pub open-answers : Unit {0}
 unfolding firstNo decide after shown
-answers = tt
+open-answers = tt

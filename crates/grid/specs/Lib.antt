@@ -3,4 +3,6 @@ pub mod Grid
 pub mod Map
 pub mod Answer
 pub mod Questions
-pub mod Sheet
+pub mod Judge
+pub mod Requires
+pub mod State

@@ -1,10 +1,10 @@
--- The constants of document 01 by their bits, each tied to its decimal.
+-- The constants of SPECIFICATION, section 1.6, by their bits, each tied to its decimal.
 use Prim.Native.Nat.{ℕ}
 use mathlib.Core.Path.{_≡_, refl}
-use mathlib.Core.Bool.{false, true}
+use mathlib.Core.Bool.{false}
 use lib.IntN.{pos, negsuc}
 use lib.Ieee.{Float, fin, binary64, ofBits}
-use Rattle.floats.specs.Binary.{decimal, floats}
+use Rattle.floats.specs.Binary.{decimal, open-floats}
 
 -- the Earth's mean radius in kilometres (IUGG), 6371.0088
 abbrev pub earth : Float
@@ -48,5 +48,5 @@ pub record Decimals : Type 0 where
   pub ½-is : ½ ≡ decimal 5 1
 
 pub decimals : Decimals
-unfolding floats
+unfolding open-floats
 decimals = record { earth-is = refl; π-is = refl; radian-is = refl; nano-is = refl; ε-is = refl; largest-is = refl; ½-is = refl }

@@ -1,47 +1,52 @@
 -- Questions 1 to 6, the ones that a map is asked.
-use Prim.Native.Nat.{ℕ, suc, _+_, _-_, _*_}
-use mathlib.Core.Bool.{Bool, cond, not, _&&_}
+use Prim.Native.Nat.{ℕ, _+_, _-_}
+use mathlib.Core.Bool.{Bool, cond, _&&_, not}
 use mathlib.Core.List.{List, [], _∷_, _++_}
-use lib.ListN.{length}
 use lib.Ieee.{Float, le, lt, eq}
 use lib.Dec.{leb, ltb, eqb}
-use Rattle.floats.specs.Binary.{whole, _⊕_, _⊖_, _⊗_, finite, absolute}
+use lib.ListN.{length}
 use Rattle.lists.specs.Counted.{allBelow}
+use Rattle.floats.specs.Binary.{whole, _⊕_, _⊗_, _⊖_, finite, absolute}
 use Rattle.grid.specs.declared.Grid.{Grid}
-use Rattle.grid.specs.Numbers.{nano, π}
-use Rattle.grid.specs.Grid.{closing, cells, cell}
+use Rattle.grid.specs.Numbers.{π, nano}
+use Rattle.grid.specs.Grid.{mostColumns, mostRows, cells, closing, angleCount}
 use Rattle.grid.specs.Map.{Globe, Map, angleAt, cosineAt}
 use Rattle.grid.specs.Answer.{Question, question}
 
 -- ---- 1 to 3: the grid
 
+-- question 1: from 1 to 180 columns and from 1 to 90 rows
 unfoldable pub sizesInRange : Grid → Bool
-sizesInRange g = leb 1 (g .width) && leb (g .width) 180 && leb 1 (g .height) && leb (g .height) 90
+sizesInRange g = leb 1 (g .width) && leb (g .width) mostColumns && leb 1 (g .height) && leb (g .height) mostRows
 
 -- within 90 + 1e-9 of zero
 unfoldable pub latitudeInRange : Float → Bool
 latitudeInRange x = le (absolute x) (whole 90 ⊕ nano)
 
+-- question 2: origin and steps finite, the latitude step not zero, and both edges in range
 unfoldable pub latitudesInRange : Grid → Bool
 latitudesInRange g =
     finite (g .«origin_lat») && finite (g .«lon_step») && finite (g .«lat_step») && not (eq (g .«lat_step») (whole 0))
     && latitudeInRange (g .«origin_lat») && latitudeInRange (g .«origin_lat» ⊕ whole (g .height) ⊗ g .«lat_step»)
 
--- the columns make one turn: | width × |longitude step| − 360 | ≤ 1e-9
+-- question 3: the columns make one turn: | width × |longitude step| − 360 | ≤ 1e-9
 unfoldable pub columnsClose : Grid → Bool
 columnsClose g = le (absolute (whole (g .width) ⊗ absolute (g .«lon_step») ⊖ whole 360)) nano
 
+-- what a grid is asked, in this order
 unfoldable pub gridQuestions : Grid → List Question
 gridQuestions g = question 1 (sizesInRange g) ∷ question 2 (latitudesInRange g) ∷ question 3 (columnsClose g) ∷ []
 
 -- ---- 4 and 5: how many counts, angles and cosines
 
+-- question 4: a count for every cell
 unfoldable pub countsComplete : Map → Bool
 countsComplete m = eqb (length (m .counts)) (cells (m .globe .grid))
 
+-- question 5: an angle for every centre row, row and column distance, and a cosine for every row
 unfoldable pub sheetComplete : Globe → Bool
 sheetComplete s =
-    eqb (length (s .angles)) (s .grid .height * s .grid .height * (closing (s .grid) + 1)) && eqb (length (s .cosines)) (s .grid .height)
+    eqb (length (s .angles)) (angleCount (s .grid)) && eqb (length (s .cosines)) (s .grid .height)
 
 -- ---- 6: the sheet's values
 
@@ -89,15 +94,20 @@ module _ (s : Globe) where
   unfoldable pub rowsRise : Bool
   rowsRise = everyRow s (λ c. allBelow (s .grid .height - 1) (rowRises c))
 
+  -- question 6
   unfoldable pub sheetInOrder : Bool
   sheetInOrder = cosinesInRange && anglesInRange && ownAngleZero && anglesRise && rowsRise
 
+-- what a sheet is asked
+unfoldable pub sheetQuestions : Globe → List Question
+sheetQuestions s = question 5 (sheetComplete s) ∷ question 6 (sheetInOrder s) ∷ []
+
+-- ---- 1 to 6: what a map is asked, before the questions of a call's own
+
 unfoldable pub mapQuestions : Map → List Question
-mapQuestions m =
-    gridQuestions (m .globe .grid)
-    ++ question 4 (countsComplete m) ∷ question 5 (sheetComplete (m .globe)) ∷ question 6 (sheetInOrder (m .globe)) ∷ []
+mapQuestions m = gridQuestions (m .globe .grid) ++ question 4 (countsComplete m) ∷ sheetQuestions (m .globe)
 
 -- opens all of the above, for facts that are computed
-unfoldable pub questions : Unit {0}
-unfolding sizesInRange latitudeInRange latitudesInRange columnsClose gridQuestions countsComplete sheetComplete everyRow everyPair cosineInRange cosinesInRange angleInRange anglesInRange ownAngleZero angleRises anglesRise rowRises rowsRise sheetInOrder mapQuestions
-questions = tt
+unfoldable pub open-questions : Unit {0}
+unfolding sizesInRange latitudeInRange latitudesInRange columnsClose gridQuestions countsComplete sheetComplete everyRow everyPair cosineInRange cosinesInRange angleInRange anglesInRange ownAngleZero angleRises anglesRise rowRises rowsRise sheetInOrder sheetQuestions mapQuestions
+open-questions = tt

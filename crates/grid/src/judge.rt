@@ -1,5 +1,5 @@
 // The judge of a sheet's angles: fed one at a time, or a run of them at once. A run is the angles of a centre row and a row.
-// What is asked of an angle stands in `specs/Sheet.antt`, under the same names.
+// What is asked of an angle stands in `specs/Judge.antt`, what is asked of a run in `specs/State.antt`, under the same names.
 use crate::Grid;
 use crate::SheetJudge;
 ghost use mathlib.Core.Path.{_≡_};
@@ -7,8 +7,10 @@ ghost use Prim.Native.Nat.{_<_};
 ghost use lib.ListN.{length};
 ghost use lib.Ieee.{le};
 ghost use Rattle.lists.specs.Lists.{fold};
-ghost use Rattle.grid.specs.Sheet.{judgeStart, ownFits, rowFits, headFits, angleFits, headAfter, nextRow, nextPlace, judgeFeed, judged};
-ghost use Rattle.grid.specs.Sheet.{EveryAngle, notFalling, runFits, runAhead, NextRun};
+ghost use Rattle.grid.specs.Grid.{angleCount};
+ghost use Rattle.grid.specs.Judge.{judgeStart, ownFits, rowFits, headFits, angleFits, headAfter, nextRow, nextPlace, judgeFeed, judged};
+ghost use Rattle.grid.specs.Requires.{NextRun};
+ghost use Rattle.grid.specs.State.{notFalling, runFits, runAhead};
 
 fn at_most(x: f64, y: f64) -> bool
     ensures { λ r. ⌜ r ≡ le x y ⌝ }
@@ -16,7 +18,7 @@ fn at_most(x: f64, y: f64) -> bool
     x <= y
 }
 
-// Without a way out of the loop several angles are compared at a time.
+// Whether no angle of the run is below the one before it. Without a way out of the loop several angles are compared at a time.
 fn not_falling(run: &[f64]) -> bool
     ensures { λ r. ⌜ r ≡ notFalling (now (run .entry)) ⌝ }
 {
@@ -31,6 +33,7 @@ fn not_falling(run: &[f64]) -> bool
 }
 
 impl SheetJudge {
+    // Before the first angle.
     pub fn start(grid: Grid) -> SheetJudge
         ensures { λ r. ⌜ r ≡ judgeStart grid ⌝ }
     {
@@ -45,6 +48,7 @@ impl SheetJudge {
         }
     }
 
+    // An angle at offset 0 is 0 where the row is the centre row.
     fn own_fits(self, angle: f64) -> bool
         ensures { λ r. ⌜ r ≡ ownFits self angle ⌝ }
     {
@@ -55,6 +59,7 @@ impl SheetJudge {
         }
     }
 
+    // From row 1 on an angle at offset 0 does not fall as the row moves away from the centre row.
     fn row_fits(self, angle: f64) -> bool
         ensures { λ r. ⌜ r ≡ rowFits self angle ⌝ }
     {
@@ -68,6 +73,7 @@ impl SheetJudge {
         }
     }
 
+    // What is asked of an angle at offset 0 beyond its range.
     fn head_fits(self, angle: f64) -> bool
         ensures { λ r. ⌜ r ≡ headFits self angle ⌝ }
     {
@@ -77,10 +83,11 @@ impl SheetJudge {
         self.row_fits(angle)
     }
 
+    // What is asked of the next angle.
     fn angle_fits(self, angle: f64) -> bool
         ensures { λ r. ⌜ r ≡ angleFits self angle ⌝ }
     {
-        let in_range = at_most(0.0, angle) & at_most(angle, crate::places::HALF_TURN);
+        let in_range = at_most(0.0, angle) & at_most(angle, crate::HALF_TURN);
         if self.offset == 0 {
             in_range & self.head_fits(angle)
         } else {
@@ -88,6 +95,7 @@ impl SheetJudge {
         }
     }
 
+    // The latest offset-0 angle, once this angle is fed.
     fn head_after(self, angle: f64) -> f64
         ensures { λ r. ⌜ r ≡ headAfter self angle ⌝ }
     {
@@ -123,6 +131,7 @@ impl SheetJudge {
         }
     }
 
+    // The next offset of this row, or the next row.
     fn next_place(self, before: f64, head: f64, well: bool) -> SheetJudge
         requires { ⌜ self .centre < self .grid .height ⌝ }
         ensures { λ r. ⌜ r ≡ nextPlace self before head well ⌝ }
@@ -165,6 +174,7 @@ impl SheetJudge {
         (self.offset == 0) & (self.centre < self.grid.height) & (last < n)
     }
 
+    // What is asked of a run: where no angle falls its first and its last one bound the rest.
     fn run_fits(self, run: &[f64]) -> bool
         requires { ⌜ 0 < length (now run) ⌝ }
         ensures { λ r. ⌜ r ≡ runFits self (now (run .entry)) ⌝ }
@@ -176,13 +186,13 @@ impl SheetJudge {
         if !self.head_fits(first) {
             return false;
         }
-        if !at_most(run[run.len() - 1], crate::places::HALF_TURN) {
+        if !at_most(run[run.len() - 1], crate::HALF_TURN) {
             return false;
         }
         not_falling(run)
     }
 
-    // As if fed one by one.
+    // The next run, as if its angles were fed one by one.
     fn feed_run(self, run: &[f64]) -> SheetJudge
         requires { ⌜ NextRun self (now run) ⌝ }
         ensures { λ r. ⌜ r ≡ fold judgeFeed self (now (run .entry)) ⌝ }
@@ -220,9 +230,9 @@ impl SheetJudge {
     }
 }
 
-// What the judge says of a whole sheet. After a run that does not fit no angle is read.
+// What the judge says of a whole sheet. After a run that does not fit no angle is read: what is refused stays refused.
 pub(crate) fn angles_in_order(grid: Grid, angles: &[f64]) -> bool
-    requires { ⌜ EveryAngle grid (now angles) ⌝ }
+    requires { ⌜ length (now angles) ≡ angleCount grid ⌝ }
     ensures { λ r. ⌜ r ≡ judged grid (now (angles .entry)) ⌝ }
 {
     let run = crate::closing(grid) as usize + 1;

@@ -4,6 +4,7 @@ mod places;
 mod questions;
 mod sheet;
 
+pub use places::HALF_TURN;
 pub use places::angle_of;
 pub use places::arc_km;
 pub use places::before;
@@ -17,11 +18,18 @@ pub use questions::grid_refusal;
 pub use questions::latitudes_in_range;
 pub use questions::map_refusal;
 pub use questions::sheet_complete;
+pub use questions::sheet_refusal;
 pub use questions::sizes_in_range;
 pub use sheet::sheet_in_order;
 ghost use mathlib.Core.Path.{_≡_};
 ghost use Rattle.grid.specs.Grid.{rowFound, colFound, radiusFound, centreLat};
 
+// The most columns and the most rows that question 1 admits.
+pub const MOST_COLUMNS: u32 = 180;
+
+pub const MOST_ROWS: u32 = 90;
+
+// A row and a column by number: types of their own, so that neither serves as the other.
 pub struct Row(pub u32);
 
 pub struct Col(pub u32);
@@ -34,6 +42,7 @@ pub struct Cell {
 // A radius in whole kilometres.
 pub struct RadiusKm(pub u32);
 
+// Rows go south by index where the latitude step is below 0, columns go around the ring. No longitude is kept: distances read differences alone.
 pub struct Grid {
     pub width: u32,
     pub height: u32,
@@ -42,6 +51,7 @@ pub struct Grid {
     pub lat_step: f64,
 }
 
+// The row, the column and the radius of a number, where there is one.
 pub enum RowFound {
     On(Row),
     Off,
@@ -76,6 +86,7 @@ impl RadiusKm {
     // The first whole kilometre at which every circle is the whole grid.
     pub const CEILING: u32 = 20016;
 
+    // No radius beyond the ceiling is made: it would give the same circle.
     pub fn new(km: u32) -> RadiusFound
         ensures { λ r. ⌜ r ≡ radiusFound km ⌝ }
     {
@@ -88,6 +99,7 @@ impl RadiusKm {
 }
 
 impl Grid {
+    // The row of a number, where the grid has it.
     pub fn row(self, index: u32) -> RowFound
         ensures { λ r. ⌜ r ≡ rowFound self index ⌝ }
     {
@@ -98,6 +110,7 @@ impl Grid {
         }
     }
 
+    // The column of a number, where the grid has it.
     pub fn col(self, index: u32) -> ColFound
         ensures { λ r. ⌜ r ≡ colFound self index ⌝ }
     {
@@ -107,7 +120,8 @@ impl Grid {
             ColFound::Off
         }
     }
-    // The latitude of the row's centre.
+
+    // The latitude of the row's centre, which all its cells share: distances are between the centres of cells.
     pub fn centre_lat(self, row: Row) -> f64
         ensures { λ r. ⌜ r ≡ centreLat self row ⌝ }
     {

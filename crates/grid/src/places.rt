@@ -6,23 +6,26 @@ use crate::Row;
 ghost use mathlib.Core.Path.{_≡_};
 ghost use Rattle.grid.specs.Grid.{angleOf, arcKm, onGrid, cells, before, closing};
 ghost use Rattle.grid.specs.Map.{sheetIndex};
-ghost use Rattle.grid.specs.Sheet.{InSheet};
+ghost use Rattle.grid.specs.Requires.{InSheet};
 
 // Half a turn in radians.
 pub const HALF_TURN: f64 = 3.141592653589793;
 
+// The angle of a radius: at most half a turn, since nothing lies further away.
 pub fn angle_of(grid: Grid, km: f64) -> f64
     ensures { λ r. ⌜ r ≡ angleOf grid km ⌝ }
 {
     floats::lesser(km / RadiusKm::EARTH_RADIUS_KM, HALF_TURN)
 }
 
+// The length in kilometres of an arc of that angle.
 pub fn arc_km(grid: Grid, angle: f64) -> f64
     ensures { λ r. ⌜ r ≡ arcKm grid angle ⌝ }
 {
     RadiusKm::EARTH_RADIUS_KM * angle
 }
 
+// Whether the grid has that row and that column.
 pub fn on_grid(grid: Grid, cell: Cell) -> bool
     ensures { λ r. ⌜ r ≡ onGrid grid cell ⌝ }
 {
@@ -33,12 +36,14 @@ pub fn on_grid(grid: Grid, cell: Cell) -> bool
     }
 }
 
+// How many cells the grid has.
 pub fn cells(grid: Grid) -> u64
     ensures { λ r. ⌜ r ≡ cells grid ⌝ }
 {
     grid.width as u64 * grid.height as u64
 }
 
+// Whether x stands before y by row, then column: of cells alike in everything else the first is taken.
 pub fn before(x: Cell, y: Cell) -> bool
     ensures { λ r. ⌜ r ≡ before x y ⌝ }
 {
@@ -52,14 +57,14 @@ pub fn before(x: Cell, y: Cell) -> bool
     }
 }
 
-// The largest column distance around the ring.
+// The largest column distance around the ring: from there on columns come nearer on the other side.
 pub fn closing(grid: Grid) -> u32
     ensures { λ r. ⌜ r ≡ closing grid ⌝ }
 {
     grid.width / 2
 }
 
-// The place of an angle in the sheet.
+// The place in the sheet of the angle from a centre row to a row at a column distance.
 pub fn sheet_index(grid: Grid, centre: Row, row: Row, offset: u32) -> usize
     requires { ⌜ InSheet grid centre row offset ⌝ }
     ensures { λ r. ⌜ r ≡ sheetIndex grid centre row offset ⌝ }

@@ -1,35 +1,42 @@
-// Questions 1 to 5, each on any input, and the first refusal of a grid and of a map.
+// Questions 1 to 5, each on any input, and the first refusal of a grid, of a sheet and of a map.
 use crate::Grid;
 ghost use mathlib.Core.Path.{_≡_};
 ghost use Prim.Native.Nat.{_*_};
 ghost use mathlib.Core.List.{[]};
 ghost use lib.Dec.{eqb};
 ghost use Rattle.grid.specs.Answer.{firstNo};
-ghost use Rattle.grid.specs.Questions.{sizesInRange, latitudeInRange, latitudesInRange, columnsClose, countsComplete, sheetComplete, gridQuestions, mapQuestions};
+ghost use Rattle.grid.specs.Map.{globeOf, lentMap};
+ghost use Rattle.grid.specs.Questions.{sizesInRange, latitudeInRange, latitudesInRange, columnsClose};
+ghost use Rattle.grid.specs.Questions.{countsComplete, sheetComplete, gridQuestions, sheetQuestions, mapQuestions};
 
-// Question 1.
+// What edges and turns may be off by, in degrees. A step is a rounded decimal, so that rows that end at a pole may end a little past it,
+// and columns that make a turn may miss 360 by a little; being wrong by a cell is far more than this.
+const ROUNDING: f64 = 1e-9;
+
+// Question 1: the sizes. The limits bound every index, sum and buffer below.
 pub fn sizes_in_range(grid: Grid) -> bool
     ensures { λ r. ⌜ r ≡ sizesInRange grid ⌝ }
 {
     if grid.width < 1 {
         return false;
     }
-    if 180 < grid.width {
+    if crate::MOST_COLUMNS < grid.width {
         return false;
     }
     if grid.height < 1 {
         return false;
     }
-    grid.height <= 90
+    grid.height <= crate::MOST_ROWS
 }
 
+// Within 90 degrees of the equator.
 fn latitude_in_range(x: f64) -> bool
     ensures { λ r. ⌜ r ≡ latitudeInRange x ⌝ }
 {
-    floats::abs(x) <= 90.0 + 1e-9
+    floats::abs(x) <= 90.0 + ROUNDING
 }
 
-// Question 2.
+// Question 2: numbers that are finite, rows that differ, and both edges on the globe.
 pub fn latitudes_in_range(grid: Grid) -> bool
     ensures { λ r. ⌜ r ≡ latitudesInRange grid ⌝ }
 {
@@ -51,16 +58,16 @@ pub fn latitudes_in_range(grid: Grid) -> bool
     latitude_in_range(grid.origin_lat + grid.height as f64 * grid.lat_step)
 }
 
-// Question 3.
+// Question 3: the columns make one turn, so that the last one is the first one's neighbour.
 pub fn columns_close(grid: Grid) -> bool
     ensures { λ r. ⌜ r ≡ columnsClose grid ⌝ }
 {
-    floats::abs(grid.width as f64 * floats::abs(grid.lon_step) - 360.0) <= 1e-9
+    floats::abs(grid.width as f64 * floats::abs(grid.lon_step) - 360.0) <= ROUNDING
 }
 
-// Question 4.
+// Question 4: a count for every cell.
 pub fn counts_complete(grid: Grid, counts: &[u32]) -> bool
-    ensures { λ r. ⌜ r ≡ countsComplete (record { globe = record { grid = grid; angles = []; cosines = [] }; counts = now (counts .entry) }) ⌝ }
+    ensures { λ r. ⌜ r ≡ countsComplete (lentMap grid (now (counts .entry)) [] []) ⌝ }
 {
     counts.len() as u64 == crate::cells(grid)
 }
@@ -78,9 +85,9 @@ fn is_product(n: u64, a: u64, b: u64) -> bool
     n / a == b
 }
 
-// Question 5.
+// Question 5: an angle for every centre row, row and column distance, and a cosine for every row.
 pub fn sheet_complete(grid: Grid, angles: &[f64], cosines: &[f64]) -> bool
-    ensures { λ r. ⌜ r ≡ sheetComplete (record { grid = grid; angles = now (angles .entry); cosines = now (cosines .entry) }) ⌝ }
+    ensures { λ r. ⌜ r ≡ sheetComplete (globeOf grid (now (angles .entry)) (now (cosines .entry))) ⌝ }
 {
     let height = grid.height as u64;
     let offsets = crate::closing(grid) as u64 + 1;
@@ -106,9 +113,22 @@ pub fn grid_refusal(grid: Grid) -> u32
     0
 }
 
+// The number of the first of the questions 5 and 6 that is answered no, or 0.
+pub fn sheet_refusal(grid: Grid, angles: &[f64], cosines: &[f64]) -> u32
+    ensures { λ r. ⌜ r ≡ firstNo (sheetQuestions (globeOf grid (now (angles .entry)) (now (cosines .entry)))) ⌝ }
+{
+    if !sheet_complete(grid, angles, cosines) {
+        return 5;
+    }
+    if !crate::sheet_in_order(grid, angles, cosines) {
+        return 6;
+    }
+    0
+}
+
 // The number of the first of the questions 1 to 6 that is answered no, or 0.
 pub fn map_refusal(grid: Grid, counts: &[u32], angles: &[f64], cosines: &[f64]) -> u32
-    ensures { λ r. ⌜ r ≡ firstNo (mapQuestions (record { globe = record { grid = grid; angles = now (angles .entry); cosines = now (cosines .entry) }; counts = now (counts .entry) })) ⌝ }
+    ensures { λ r. ⌜ r ≡ firstNo (mapQuestions (lentMap grid (now (counts .entry)) (now (angles .entry)) (now (cosines .entry)))) ⌝ }
 {
     let refusal = grid_refusal(grid);
     if refusal != 0 {
@@ -117,11 +137,5 @@ pub fn map_refusal(grid: Grid, counts: &[u32], angles: &[f64], cosines: &[f64]) 
     if !counts_complete(grid, counts) {
         return 4;
     }
-    if !sheet_complete(grid, angles, cosines) {
-        return 5;
-    }
-    if !crate::sheet_in_order(grid, angles, cosines) {
-        return 6;
-    }
-    0
+    sheet_refusal(grid, angles, cosines)
 }

@@ -5,13 +5,15 @@ use mathlib.Core.List.{List}
 use lib.ListN.{getD}
 use Rattle.floats.specs.Binary.{whole}
 use Rattle.grid.specs.declared.Cell.{Cell}
-use Rattle.grid.specs.Map.{Map}
-use Rattle.table.specs.Table.{filledSums}
-use Rattle.table.specs.Summed.{countsMap, tableMap, Fillable}
-use Rattle.table.proofs.Tables.{fillable, bare-filled, table-map, summed}
+use Rattle.grid.specs.Map.{Map, sheetOf}
+use Rattle.sums.specs.Sums.{filledSums}
+use Rattle.sums.specs.State.{countsMap, tableMap}
+use Rattle.sums.specs.Requires.{Fillable}
+use Rattle.sums.proofs.Tables.{fillable, bare-filled, table-map, summed}
 use Rattle.kernel.specs.declared.Kernel.{Kernel}
 use Rattle.kernel.specs.Circle.{population}
-use Rattle.kernel.specs.Kernel.{kernelOf, kernelPopulation, sheetOf, OnSheet, Placed}
+use Rattle.kernel.specs.Kernel.{kernelOf, kernelPopulation}
+use Rattle.kernel.specs.Requires.{OnSheet, Placed}
 use Rattle.kernel.proofs.Placing.{on-sheet, placed, circle-people}
 use Rattle.kernel.proofs.Calls.{CirclePassed, on-grid}
 

@@ -15,11 +15,11 @@ use Rattle.grid.specs.Map.{Globe, Map}
 use Rattle.grid.proofs.Distance.{distance-closing}
 use Rattle.grid.proofs.SheetOrder.{InOrder}
 use Rattle.kernel.specs.Circle.{angleTo, inCircle, population}
-use Rattle.kernel.specs.Kernel.{kernelOf, inKernel, kernelPopulation}
+use Rattle.kernel.specs.Kernel.{kernelOf, inKernel, kernelPopulation, rowPlaces}
 use Rattle.kernel.proofs.Reaches.{reach-tests}
 use Rattle.kernel.proofs.Kernels.{kernel-reach, reach-none, reach-on}
 
-module _ (s : Globe) (q : InOrder s) (high : s .grid .height ≤ 90) (row : Row) (on : row .0 < s .grid .height) (km : Float) (col : Col) where
+module _ (s : Globe) (q : InOrder s) (high : s .grid .height ≤ rowPlaces) (row : Row) (on : row .0 < s .grid .height) (km : Float) (col : Col) where
   -- on a sheet in order the kernel around a column is the circle around its cell
   pub kernel-cells : (x : Cell) → x .row .0 < s .grid .height → inKernel (s .grid) (kernelOf s row km) col x ≡ inCircle s km (record { row = row; col = col }) x
   unfolding inKernel inCircle angleTo
@@ -33,7 +33,7 @@ module _ (s : Globe) (q : InOrder s) (high : s .grid .height ≤ 90) (row : Row)
       (sym (reach-tests s q (row .0) on (angleOf (s .grid) km) (x .row .0) X d (distance-closing (s .grid) (col .0) (x .col .0))))))
 
 -- the people of the kernel's cells are those of the circle
-pub kernel-people : (m : Map) → InOrder (m .globe) → m .globe .grid .height ≤ 90 → (row : Row) → row .0 < m .globe .grid .height → (km : Float) (col : Col)
+pub kernel-people : (m : Map) → InOrder (m .globe) → m .globe .grid .height ≤ rowPlaces → (row : Row) → row .0 < m .globe .grid .height → (km : Float) (col : Col)
     → kernelPopulation m (kernelOf (m .globe) row km) col ≡ population m km (record { row = row; col = col })
 unfolding kernelPopulation population
 kernel-people m q high row on km col =

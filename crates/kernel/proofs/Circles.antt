@@ -1,33 +1,31 @@
 -- Circles as sets of cells: they grow with the radius, are the whole grid from the ceiling on, and depend on the radius's value alone.
-use Prim.Native.Nat.{ℕ, zero, suc, _^_, _≤_, _<_, zero-le}
+use Prim.Native.Nat.{ℕ, zero, suc, _^_, _≤_, _<_}
 use mathlib.Core.Path.{_≡_}
-use mathlib.Core.Logic.{_⊎_}
 use mathlib.Core.Bool.{Bool, true, false, cond}
 use native.Mathlib.Nat.{le-refl}
 use native.Mathlib.Omega.{arith}
 use lib.Dec.{T, lit≤}
 use lib.Ieee.{Float, le, eq}
-use Rattle.floats.specs.Binary.{floats, whole}
+use Rattle.floats.specs.Binary.{open-floats, whole}
 use Rattle.floats.proofs.Order.{le-trans}
 use Rattle.floats.proofs.Total.{lt-not-le, le-of-eq, eq-le, le-same-right}
 use Rattle.floats.proofs.Whole.{whole-le, whole-lt}
-use Rattle.lists.proofs.Bools.{is-true, of-true}
+use Rattle.lists.proofs.Bools.{is-true}
 use Rattle.grid.specs.declared.Cell.{Cell}
 use Rattle.grid.specs.declared.Grid.{Grid}
 use Rattle.grid.specs.Numbers.{π}
-use Rattle.grid.specs.Grid.{cell, ceiling, angleOf, columnDistance}
+use Rattle.grid.specs.Grid.{ceiling, angleOf, columnDistance}
 use Rattle.grid.specs.Map.{Globe}
-use Rattle.grid.specs.Questions.{angle}
-use Rattle.grid.proofs.Distance.{distance-own, distance-closing}
-use Rattle.grid.proofs.SheetOrder.{InOrder, own-zero, angle-most, offsets-first, rows-band}
+use Rattle.grid.proofs.Distance.{distance-closing}
+use Rattle.grid.proofs.SheetOrder.{InOrder, angle-most}
 use Rattle.kernel.specs.Circle.{angleTo, inCircle}
 use Rattle.kernel.proofs.General.{eq-same}
-use Rattle.kernel.proofs.Angle.{angle-mono, angle-whole, angle-zero, angle-ceiling}
+use Rattle.kernel.proofs.Angle.{angle-mono, angle-ceiling}
 
 -- ---- which radii are 0
 
 zero-zero : T (eq (whole 0) (whole 0))
-unfolding floats
+unfolding open-floats
 zero-zero = tt
 
 -- what is at least a whole number above 0 is not 0
@@ -95,46 +93,3 @@ module _ (s : Globe) (q : InOrder s) (c : Cell) (C : c .row .0 < s .grid .height
       circle-in s km c x (ceiling-not-zero g km h)
       (le-trans (angleTo s c x) π (angleOf g km) (angle-most s q (c .row .0) C (x .row .0) X offset (distance-closing g (c .col .0) (x .col .0)))
       (rw (angle-ceiling g) at (angle-mono g (whole (ceiling g)) km h)))
-
-  pub circle-ceiling : (x : Cell) → x .row .0 < s .grid .height → T (inCircle s (whole (ceiling (s .grid))) c x)
-  circle-ceiling x X = circle-all (whole (ceiling (s .grid))) (whole-le (ceiling (s .grid)) (ceiling (s .grid)) (le-refl (ceiling (s .grid)))) x X
-
-  -- a circle of 1 km and more holds its centre
-  pub circle-own : (km : ℕ) → 1 ≤ km → km ≤ 2 ^ 53 → T (inCircle s (whole km) c c)
-  unfolding angleTo
-  circle-own km h l =
-      let g = s .grid in
-      let here = le-of-eq (angle s (c .row .0) (c .row .0) 0) (whole 0) (own-zero s q (c .row .0) C) in
-      circle-in s (whole km) c c (whole-not-zero km h l)
-      (rw (distance-own (g .width) (c .col .0))
-      (le-trans (angle s (c .row .0) (c .row .0) 0) (whole 0) (angleOf g (whole km)) here (rw (angle-zero g) at (angle-whole g 0 km zero-le))))
-
-  module _ (km : Float) where
-    -- a row's cells in a circle are nearest to the centre's column
-    pub row-nearest : (r j k : ℕ) → r < s .grid .height → columnDistance (s .grid .width) (c .col .0) j ≤ columnDistance (s .grid .width) (c .col .0) k
-        → T (inCircle s km c (cell r k)) → T (inCircle s km c (cell r j))
-    unfolding angleTo
-    row-nearest r j k R h t =
-        let g = s .grid in
-        let o = circle-out s km c (cell r k) t in
-        let a = angleOf g km in
-        let near = columnDistance (g .width) (c .col .0) j in
-        let far = columnDistance (g .width) (c .col .0) k in
-        circle-in s km c (cell r j) (o .0)
-        (of-true (le (angle s (c .row .0) r near) a)
-        (offsets-first s q (c .row .0) C r R a near far h (distance-closing g (c .col .0) k) (is-true (le (angle s (c .row .0) r far) a) (o .1))))
-
-    -- the rows that a circle touches, each at the centre's column first, are one band around the centre's row
-    pub row-touched : (r k : ℕ) → r < s .grid .height → T (inCircle s km c (cell r k)) → T (inCircle s km c (cell r (c .col .0)))
-    row-touched r k R t = row-nearest r (c .col .0) k R (rw (distance-own (s .grid .width) (c .col .0)) zero-le) t
-
-    pub circle-band : (r t : ℕ) → t < s .grid .height → (c .row .0 ≤ r × r ≤ t) ⊎ (t ≤ r × r ≤ c .row .0)
-        → T (inCircle s km c (cell t (c .col .0))) → T (inCircle s km c (cell r (c .col .0)))
-    unfolding angleTo
-    circle-band r t h between i =
-        let e = distance-own (s .grid .width) (c .col .0) in
-        let o = circle-out s km c (cell t (c .col .0)) i in
-        let a = angleOf (s .grid) km in
-        circle-in s km c (cell r (c .col .0)) (o .0)
-        (rw e (of-true (le (angle s (c .row .0) r 0) a)
-        (rows-band s q (c .row .0) C a r t h between (is-true (le (angle s (c .row .0) t 0) a) (rw e at (o .1))))))

@@ -10,12 +10,13 @@ use lib.Ieee.{Float}
 use Rattle.grid.specs.declared.Row.{Row}
 use Rattle.grid.specs.declared.Grid.{Grid}
 use Rattle.grid.specs.Grid.{closing}
-use Rattle.grid.specs.Map.{Globe, angleAt, sheetIndex}
-use Rattle.grid.specs.Sheet.{InSheet}
+use Rattle.grid.specs.Map.{Globe, angleAt, sheetIndex, globeOf, sheetOf}
+use Rattle.grid.specs.Requires.{InSheet}
 use Rattle.grid.proofs.Index.{place-in}
 use Rattle.lists.proofs.Bools.{not-both}
-use Rattle.kernel.specs.Kernel.{reach, globeOf, sheetOf}
-use Rattle.kernel.specs.Walk.{PairOnSheet, passes, Edge}
+use Rattle.kernel.specs.Kernel.{reach}
+use Rattle.kernel.specs.Requires.{PairOnSheet}
+use Rattle.kernel.specs.State.{passes, Edge}
 use Rattle.kernel.proofs.Reaches.{inside, reach-edge, reach-sheet, sheet-order, sheet-length, sheet-wide, sheet-high}
 
 module _ (p : ℕ → Bool) where

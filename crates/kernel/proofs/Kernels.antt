@@ -21,7 +21,8 @@ use Rattle.grid.specs.Grid.{angleOf}
 use Rattle.grid.specs.Map.{Globe}
 use Rattle.grid.proofs.SheetOrder.{InOrder}
 use Rattle.kernel.specs.declared.Kernel.{Kernel}
-use Rattle.kernel.specs.Kernel.{reach, rowReach, runEnd, rowRun, kernelOf, Banded, Joined}
+use Rattle.kernel.specs.Kernel.{reach, rowReach, runEnd, rowRun, kernelOf, rowPlaces}
+use Rattle.kernel.specs.Requires.{Banded, Joined}
 use Rattle.lists.proofs.Counts.{count-is, count-le, count-tests}
 use Rattle.kernel.proofs.Reaches.{missed-beyond}
 use Rattle.kernel.proofs.RowRuns.{run-onward, run-alike}
@@ -53,7 +54,7 @@ module _ (s : Globe) (c : Row) (km : Float) where
       (λ z. reach-on t T′ z ∙ missed-beyond s q (c .0) C (angleOf (s .grid) km) r t T′ p (sym (reach-on r R z) ∙ e))
 
   -- a row's run
-  pub run-on : (r : ℕ) → 0 < rowReach s c km r → rowRun s c km r ≡ runEnd (rowReach s c km) (90 - r) r
+  pub run-on : (r : ℕ) → 0 < rowReach s c km r → rowRun s c km r ≡ runEnd (rowReach s c km) (rowPlaces - r) r
   unfolding rowRun
   run-on r h = rw (lt-ltb 0 (rowReach s c km r) h)
 
@@ -70,12 +71,12 @@ made c km n e l u = record { row = c; km = km; north = n; end = e; reach = l; ru
 made-same : (c : Row) (km : Float) {n n′ e e′ : ℕ} {l l′ u u′ : List ℕ} → n ≡ n′ → e ≡ e′ → l ≡ l′ → u ≡ u′ → made c km n e l u ≡ made c km n′ e′ l′ u′
 made-same c km p q r t = rw (p, q, r, t)
 
-list-is : (f : ℕ → ℕ) (l : List ℕ) → length l ≡ 90 → ((r : ℕ) → r < 90 → getD l r 0 ≡ f r) → l ≡ tabulate f 90
+list-is : (f : ℕ → ℕ) (l : List ℕ) → length l ≡ rowPlaces → ((r : ℕ) → r < rowPlaces → getD l r 0 ≡ f r) → l ≡ tabulate f rowPlaces
 list-is f l len same =
-    ext-getD 0 l (tabulate f 90) (len ∙ sym (length-tabulate f 90))
-    (λ r h. same r (omega (arith, len)) ∙ sym (getD-tabulate f 90 r 0 (omega (arith, len))))
+    ext-getD 0 l (tabulate f rowPlaces) (len ∙ sym (length-tabulate f rowPlaces))
+    (λ r h. same r (omega (arith, len)) ∙ sym (getD-tabulate f rowPlaces r 0 (omega (arith, len))))
 
-module _ (s : Globe) (c : Row) (km : Float) (high : s .grid .height ≤ 90) (on : c .0 < s .grid .height) where
+module _ (s : Globe) (c : Row) (km : Float) (high : s .grid .height ≤ rowPlaces) (on : c .0 < s .grid .height) where
   abbrev missedNorth : ℕ → Bool
   missedNorth r = eqb (rowReach s c km r) 0
 
@@ -83,8 +84,8 @@ module _ (s : Globe) (c : Row) (km : Float) (high : s .grid .height ≤ 90) (on 
   touchedSouth i = ltb 0 (rowReach s c km (c .0 + i))
 
   module _ (n e : ℕ) (l u : List ℕ) (b : Banded (s .grid) (made c km n e l u))
-      (len : length l ≡ 90) (same : (r : ℕ) → r < 90 → getD l r 0 ≡ rowReach s c km r)
-      (len-run : length u ≡ 90) (same-run : (r : ℕ) → r < 90 → getD u r 0 ≡ rowRun s c km r) where
+      (len : length l ≡ rowPlaces) (same : (r : ℕ) → r < rowPlaces → getD l r 0 ≡ rowReach s c km r)
+      (len-run : length u ≡ rowPlaces) (same-run : (r : ℕ) → r < rowPlaces → getD u r 0 ≡ rowRun s c km r) where
     north-is : sumBelow (c .0) (λ r. one (missedNorth r)) ≡ n
     north-is =
         count-is missedNorth (c .0) n (b .north-on)
@@ -107,19 +108,19 @@ module _ (s : Globe) (c : Row) (km : Float) (high : s .grid .height ≤ 90) (on 
     kernel-is = made-same c km (sym north-is) (omega (arith, south-is, b .end-on)) (list-is (rowReach s c km) l len same) (list-is (rowRun s c km) u len-run same-run)
 
   -- the reach that a kernel has for a row
-  pub kernel-reach : (r : ℕ) → r < 90 → getD (kernelOf s c km .reach) r 0 ≡ rowReach s c km r
+  pub kernel-reach : (r : ℕ) → r < rowPlaces → getD (kernelOf s c km .reach) r 0 ≡ rowReach s c km r
   unfolding kernelOf
-  kernel-reach r h = getD-tabulate (rowReach s c km) 90 r 0 h
+  kernel-reach r h = getD-tabulate (rowReach s c km) rowPlaces r 0 h
 
-  kernel-run : (r : ℕ) → r < 90 → getD (kernelOf s c km .run) r 0 ≡ rowRun s c km r
+  kernel-run : (r : ℕ) → r < rowPlaces → getD (kernelOf s c km .run) r 0 ≡ rowRun s c km r
   unfolding kernelOf
-  kernel-run r h = getD-tabulate (rowRun s c km) 90 r 0 h
+  kernel-run r h = getD-tabulate (rowRun s c km) rowPlaces r 0 h
 
   kernel-none : (r : ℕ) → s .grid .height ≤ r → getD (kernelOf s c km .reach) r 0 ≡ 0
   unfolding kernelOf
-  kernel-none r h = elim (decLt r 90) [
-    | yes q ↦ getD-tabulate (rowReach s c km) 90 r 0 q ∙ reach-off s c km r h
-    | no q ↦ List·getD-eq-default (tabulate (rowReach s c km) 90) 0 (omega (arith, length-tabulate (rowReach s c km) 90))
+  kernel-none r h = elim (decLt r rowPlaces) [
+    | yes q ↦ getD-tabulate (rowReach s c km) rowPlaces r 0 q ∙ reach-off s c km r h
+    | no q ↦ List·getD-eq-default (tabulate (rowReach s c km) rowPlaces) 0 (omega (arith, length-tabulate (rowReach s c km) rowPlaces))
   ]
 
   module _ (q : InOrder s) where
@@ -214,11 +215,11 @@ module _ (s : Globe) (c : Row) (km : Float) (high : s .grid .height ≤ 90) (on 
     ]
 
     module _ (r : ℕ) (h : kernelOf s c km .north ≤ r) (u : r < kernelOf s c km .end) where
-      run-at : until r ≡ runEnd (rowReach s c km) (90 - r) r
+      run-at : until r ≡ runEnd (rowReach s c km) (rowPlaces - r) r
       run-at = kernel-run r (omega (arith, end-le)) ∙ run-on s c km r (reach-some r h u)
 
       run-reach : (i : ℕ) → r ≤ i → i < until r → rowReach s c km i ≡ rowReach s c km r
-      run-reach i p q = run-alike (rowReach s c km) (90 - r) r i p (omega (arith, run-at))
+      run-reach i p q = run-alike (rowReach s c km) (rowPlaces - r) r i p (omega (arith, run-at))
 
       run-within : until r ≤ kernelOf s c km .end
       run-within = elim (decLt (kernelOf s c km .end) (until r)) [
@@ -232,4 +233,4 @@ module _ (s : Globe) (c : Row) (km : Float) (high : s .grid .height ≤ 90) (on 
 
     pub kernel-joined : Joined (kernelOf s c km)
     kernel-joined =
-        record { onward = λ r h u. omega (arith, run-at r h u, run-onward (rowReach s c km) (90 - r) r); within = run-within; alike = run-same }
+        record { onward = λ r h u. omega (arith, run-at r h u, run-onward (rowReach s c km) (rowPlaces - r) r); within = run-within; alike = run-same }

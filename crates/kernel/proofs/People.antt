@@ -16,12 +16,12 @@ use Rattle.lists.proofs.Sums.{sum-ext, sum-zeros, sum-le, sum-grows, sum-seg, s
 use Rattle.grid.specs.declared.Col.{Col}
 use Rattle.grid.specs.Grid.{columnDistance, cell}
 use Rattle.grid.specs.Map.{Map, count}
-use Rattle.table.specs.Table.{corner, total}
-use Rattle.table.specs.Summed.{rowSpan, bandSpan}
-use Rattle.table.specs.declared.RowBand.{RowBand}
-use Rattle.table.proofs.Bands.{band-span-rows}
+use Rattle.sums.specs.Sums.{corner, total, rowSpan, bandSpan}
+use Rattle.sums.specs.declared.RowBand.{RowBand}
+use Rattle.sums.proofs.Bands.{band-span-rows}
 use Rattle.kernel.specs.declared.Kernel.{Kernel}
-use Rattle.kernel.specs.Kernel.{inKernel, kernelPopulation, Banded}
+use Rattle.kernel.specs.Kernel.{inKernel, kernelPopulation}
+use Rattle.kernel.specs.Requires.{Banded}
 
 -- fewer than n is at most n - 1
 below-pred : (d n : ℕ) → 0 < n → ltb d n ≡ leb d (n - 1)
@@ -52,13 +52,12 @@ module _ (m : Map) (col : Col) (reaches : List ℕ) where
       sum-ext (m .globe .grid .width) _ _ (λ i I. rw (below-pred (columnDistance (m .globe .grid .width) (col .0) i) (getD reaches r 0) h))
 
   -- the people of the rows of a run
-  pub people-run : (r e : ℕ) → r < e → e ≤ m .globe .grid .height → 0 < getD reaches r 0
-      → ((i : ℕ) → r ≤ i → i < e → getD reaches i 0 ≡ getD reaches r 0)
-      → sumBelow e reachPeople ≡ sumBelow r reachPeople + bandSpan m (rowsTo r e) col (getD reaches r 0 - 1)
-  people-run r e l h t same =
-      let half = getD reaches r 0 - 1 in
+  pub people-run : (r e n : ℕ) → r < e → e ≤ m .globe .grid .height → 0 < n → ((i : ℕ) → r ≤ i → i < e → getD reaches i 0 ≡ n)
+      → sumBelow e reachPeople ≡ sumBelow r reachPeople + bandSpan m (rowsTo r e) col (n - 1)
+  people-run r e n l h t same =
+      let half = n - 1 in
       let each = seg-same r e reachPeople (λ i. rowSpan m (record { 0 = i }) col half)
-      (λ i p q. people-touched i (omega (arith, same i p q)) ∙ ap (λ (n : ℕ). rowSpan m (record { 0 = i }) col (n - 1)) (same i p q)) in
+      (λ i p q. people-touched i (omega (arith, same i p q)) ∙ ap (λ (k : ℕ). rowSpan m (record { 0 = i }) col (k - 1)) (same i p q)) in
       let last : e - 1 + 1 ≡ e = omega arith in
       let band = rw last at (band-span-rows m (rowsTo r e) col half (omega arith) (omega arith)) in
       omega (arith, sum-seg r e reachPeople (omega arith), each, band)

@@ -8,14 +8,17 @@ use native.Mathlib.Omega.{arith}
 use Rattle.grid.specs.declared.Row.{Row}
 use Rattle.grid.specs.declared.Col.{Col}
 use Rattle.grid.specs.declared.Grid.{Grid}
-use Rattle.grid.specs.Map.{Globe, Map, angleAt, count}
+use Rattle.grid.specs.Map.{Globe, Map, angleAt, count, globeOf, sheetOf}
 use Rattle.grid.proofs.Answers.{Passed}
 use Rattle.grid.proofs.Sizes.{grid-sizes}
 use Rattle.grid.proofs.SheetOrder.{InOrder, in-order}
-use Rattle.table.specs.Summed.{tableMap, countsMap, globeMap, Summed}
+use Rattle.sums.specs.State.{tableMap, countsMap, globeMap}
+use Rattle.sums.specs.Requires.{Summed}
 use Rattle.kernel.specs.declared.Kernel.{Kernel}
 use Rattle.kernel.specs.Circle.{population}
-use Rattle.kernel.specs.Kernel.{reach, rowReach, rowRun, kernelOf, inKernel, kernelPopulation, globeOf, sheetOf, OnSheet, Banded, Joined, rowsOnly, Placed}
+use Rattle.kernel.specs.Kernel.{reach, rowReach, rowRun, kernelOf, inKernel, kernelPopulation, rowPlaces}
+use Rattle.kernel.specs.Requires.{OnSheet, Banded, Joined, Placed}
+use Rattle.kernel.specs.State.{rowsOnly}
 use Rattle.kernel.proofs.Kernels.{kernel-banded, kernel-joined}
 use Rattle.kernel.proofs.Cells.{kernel-people}
 
@@ -51,7 +54,7 @@ rows-people m k col = refl
 -- ---- a kernel of a sheet, on a table
 
 module _ (g : Grid) (angles cosines : List Float) (row : Row) (km : Float) where
-  module _ (q : InOrder (globeOf g angles cosines)) (high : g .height ≤ 90) (on : row .0 < g .height) where
+  module _ (q : InOrder (globeOf g angles cosines)) (high : g .height ≤ rowPlaces) (on : row .0 < g .height) where
     pub sheet-banded : Banded g (kernelOf (sheetOf g angles) row km)
     sheet-banded = rw (kernel-sheet (globeOf g angles cosines) row km) (kernel-banded (globeOf g angles cosines) row km high on q)
 

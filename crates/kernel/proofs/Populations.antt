@@ -12,12 +12,12 @@ use Rattle.floats.proofs.Whole.{whole-le}
 use Rattle.lists.proofs.Bools.{is-true}
 use Rattle.lists.proofs.Sums.{sum-ext, sum-zeros, sum-le}
 use Rattle.grid.specs.declared.Cell.{Cell}
-use Rattle.grid.specs.Grid.{cell, ceiling}
+use Rattle.grid.specs.Grid.{mostColumns, mostRows, cell, ceiling}
 use Rattle.grid.specs.Map.{Globe, Map, count}
 use Rattle.grid.proofs.Sizes.{Sizes}
 use Rattle.grid.proofs.SheetOrder.{InOrder}
-use Rattle.table.specs.Table.{corner, total}
-use Rattle.table.proofs.Laws as table
+use Rattle.sums.specs.Sums.{corner, total}
+use Rattle.sums.proofs.Laws as table
 use Rattle.kernel.specs.Circle.{inCircle, population}
 use Rattle.kernel.proofs.Circles.{circle-zero, circle-grows, same-radius, circle-all}
 
@@ -85,7 +85,7 @@ module _ (m : Map) where
   -- ---- how large they are
 
   module _ (sizes : Sizes (m .globe .grid)) (counted : (i : ℕ) → getD (m .counts) i 0 < 2 ^ 32) where
-    pub total-small : total m ≤ 16200 * (2 ^ 32 - 1)
+    pub total-small : total m ≤ mostRows * mostColumns * (2 ^ 32 - 1)
     total-small = table.total-small m counted (sizes .rows) (sizes .columns)
 
     -- so whole numbers of people are exact as binary64

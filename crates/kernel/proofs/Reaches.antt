@@ -12,13 +12,14 @@ use borrow.Author.Tests.{ltb-true, ltb-false, eqb-true}
 use Rattle.lists.proofs.Bools.{cases, not-both, and-left}
 use Rattle.grid.specs.declared.Row.{Row}
 use Rattle.grid.specs.declared.Grid.{Grid}
-use Rattle.grid.specs.Grid.{closing}
-use Rattle.grid.specs.Map.{Globe, angleAt}
+use Rattle.grid.specs.Grid.{mostColumns, closing}
+use Rattle.grid.specs.Map.{Globe, angleAt, globeOf, sheetOf}
 use Rattle.grid.specs.Questions.{angle, sheetComplete}
 use Rattle.grid.proofs.Sizes.{Sizes, grid-sizes}
 use Rattle.grid.proofs.SheetOrder.{InOrder, in-order, offsets-first, rows-band}
-use Rattle.kernel.specs.Kernel.{reach, globeOf, sheetOf, Sheet}
-use Rattle.kernel.specs.Walk.{Edge}
+use Rattle.kernel.specs.Kernel.{reach, rowPlaces}
+use Rattle.kernel.specs.Requires.{Sheet}
+use Rattle.kernel.specs.State.{Edge}
 use Rattle.lists.proofs.Counts.{count-is, count-tests}
 
 -- whether an offset of a row is within an angle
@@ -82,10 +83,10 @@ module _ {g : Grid} {angles : List Float} (t : Sheet g angles) where
   sheet-sizes : Sizes g
   sheet-sizes = grid-sizes g (t .sizes)
 
-  pub sheet-wide : g .width ≤ 180
+  pub sheet-wide : g .width ≤ mostColumns
   sheet-wide = sheet-sizes .columns
 
-  pub sheet-high : g .height ≤ 90
+  pub sheet-high : g .height ≤ rowPlaces
   sheet-high = sheet-sizes .rows
 
   pub sheet-beyond : (c : Row) → c .0 < g .height → (limit : Float) (r u : ℕ) → u < g .height → (c .0 ≤ r × r ≤ u) ⊎ (u ≤ r × r ≤ c .0)

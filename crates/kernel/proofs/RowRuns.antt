@@ -9,14 +9,14 @@ use borrow.Author.Tests.{eq-eqb, ne-eqb, eqb-true, eqb-false}
 use lib.Dec.{eqb}
 use lib.ListN.{getD}
 use Rattle.lists.proofs.Bools.{cases, cond-true, cond-false, cond-case}
-use Rattle.kernel.specs.Kernel.{runEnd}
-use Rattle.kernel.specs.Walk.{runIn}
+use Rattle.kernel.specs.Kernel.{runEnd, rowPlaces}
+use Rattle.kernel.specs.State.{runIn}
 
 module _ (f : ℕ → ℕ) where
-  run-step : (i : ℕ) → i < 90 → runEnd f (90 - i) i ≡ cond (eqb (f (i + 1)) (f i)) (runEnd f (90 - (i + 1)) (i + 1)) (i + 1)
+  run-step : (i : ℕ) → i < rowPlaces → runEnd f (rowPlaces - i) i ≡ cond (eqb (f (i + 1)) (f i)) (runEnd f (rowPlaces - (i + 1)) (i + 1)) (i + 1)
   unfolding runEnd
   run-step i h =
-      let e : 90 - i ≡ suc (90 - (i + 1)) = omega arith in
+      let e : rowPlaces - i ≡ suc (rowPlaces - (i + 1)) = omega arith in
       ap (λ (n : ℕ). runEnd f n i) e
 
   pub run-onward : (n i : ℕ) → i < runEnd f n i
@@ -39,7 +39,7 @@ module _ (f : ℕ → ℕ) where
       further q rest false e u = absurd (omega arith)
 
 -- the run of a row, of its reach and of the reach and the run of the row below it
-pub run-next : (l : List ℕ) (i row here below to : ℕ) → i + 1 ≡ row → i < 90 → here ≡ getD l i 0 → 0 < here → below ≡ getD l row 0
+pub run-next : (l : List ℕ) (i row here below to : ℕ) → i + 1 ≡ row → i < rowPlaces → here ≡ getD l i 0 → 0 < here → below ≡ getD l row 0
     → (0 < below → to ≡ runIn l row) → cond (eqb below here) to (i + 1) ≡ runIn l i
 run-next l i row here below to e h a p b t =
     let f : ℕ → ℕ = λ r. getD l r 0 in

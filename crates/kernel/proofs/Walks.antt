@@ -7,7 +7,7 @@ use native.Mathlib.Decide.{ℕ-discrete}
 use native.Mathlib.Omega.{arith}
 use lib.ListN.{length, getD, set}
 use lib.Seq.{getD-set-same, getD-set-other}
-use Rattle.kernel.specs.Walk.{Filled}
+use Rattle.kernel.specs.State.{Filled}
 
 module _ {f : ℕ → ℕ} where
   pub filled-none : (n : ℕ) (was : List ℕ) → Filled f n n was was

@@ -14,14 +14,15 @@ use Rattle.lists.proofs.Bools.{cases}
 use Rattle.grid.specs.declared.Grid.{Grid}
 use Rattle.grid.specs.declared.Row.{Row}
 use Rattle.grid.specs.Grid.{cell, closing, columnDistance}
-use Rattle.grid.specs.Map.{angleAt}
+use Rattle.grid.specs.Map.{angleAt, globeOf, sheetOf}
 use Rattle.grid.specs.Questions.{sizesInRange}
 use Rattle.grid.proofs.Distance.{distance-half}
 use Rattle.grid.proofs.SheetOrder.{in-order}
 use Rattle.grid.proofs.Sizes.{grid-sizes}
 use Rattle.kernel.specs.declared.Kernel.{Kernel}
 use Rattle.kernel.specs.Circle.{angleTo, inCircle, coversWholeGrid}
-use Rattle.kernel.specs.Kernel.{globeOf, sheetOf, OnSheet, reach, rowReach, kernelOf, inKernel, kernelCovers}
+use Rattle.kernel.specs.Requires.{OnSheet}
+use Rattle.kernel.specs.Kernel.{reach, rowReach, kernelOf, inKernel, kernelCovers}
 use Rattle.kernel.proofs.Cells.{kernel-cells}
 
 -- ---- a row

@@ -2,10 +2,10 @@
 use Prim.Native.Nat.{ℕ}
 use mathlib.Core.Bool.{Bool, false, cond}
 use lib.Ieee.{Float, le, eq}
-use Rattle.floats.specs.Binary.{whole}
 use Rattle.lists.specs.Counted.{sumBelow, allBelow}
-use Rattle.grid.specs.declared.Cell.{Cell}
+use Rattle.floats.specs.Binary.{whole}
 use Rattle.grid.specs.declared.Row.{Row}
+use Rattle.grid.specs.declared.Cell.{Cell}
 use Rattle.grid.specs.Grid.{angleOf, cell, columnDistance}
 use Rattle.grid.specs.Map.{Globe, Map, angleAt, count}
 
@@ -28,6 +28,6 @@ coversWholeGrid s km row =
     allBelow (s .grid .height) (λ r. allBelow (s .grid .width) (λ k. inCircle s km (record { row = row; col = record { 0 = 0 } }) (cell r k)))
 
 -- opens all of the above, for facts that are computed
-unfoldable pub circles : Unit {0}
+unfoldable pub open-circles : Unit {0}
 unfolding angleTo inCircle population coversWholeGrid
-circles = tt
+open-circles = tt

@@ -1,4 +1,5 @@
 pub mod Circle
 pub mod Kernel
-pub mod Walk
+pub mod Requires
+pub mod State
 pub mod Call

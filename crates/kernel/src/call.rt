@@ -4,8 +4,9 @@ use grid::Cell;
 use grid::Grid;
 use grid::RadiusKm;
 ghost use mathlib.Core.Path.{_≡_};
+ghost use Rattle.grid.specs.Map.{lentMap};
 ghost use Rattle.grid.specs.Answer.{firstNo};
-ghost use Rattle.kernel.specs.Call.{radiusInRange, circleQuestions, circleAnswer, circleCall};
+ghost use Rattle.kernel.specs.Call.{radiusInRange, circleQuestions, circleGave, circleCall};
 
 // Question 8, for a radius.
 pub fn radius_in_range(grid: Grid, km: u32) -> bool
@@ -24,13 +25,15 @@ fn circle_refusal(
     km: u32,
     centre: Cell,
 ) -> u32
-    ensures { λ r. ⌜ r ≡ firstNo (circleQuestions (record { globe = record { grid = grid; angles = now (angles .entry); cosines = now (cosines .entry) }; counts = now (counts .entry) }) (now (sums .entry)) km centre) ⌝ }
+    ensures { λ r. ⌜ r ≡ firstNo (circleQuestions
+        (lentMap grid (now (counts .entry)) (now (angles .entry)) (now (cosines .entry)))
+        (now (sums .entry)) km centre) ⌝ }
 {
     let refusal = grid::map_refusal(grid, counts, angles, cosines);
     if refusal != 0 {
         return refusal;
     }
-    if !table::sums_fit(grid, sums) {
+    if !sums::sums_fit(grid, sums) {
         return 7;
     }
     if !radius_in_range(grid, km) {
@@ -42,6 +45,7 @@ fn circle_refusal(
     0
 }
 
+// The population of the circle of a radius around a cell, or the number of the first question answered no; a refusal writes nothing.
 pub fn circle(
     grid: Grid,
     counts: &[u32],
@@ -51,18 +55,16 @@ pub fn circle(
     km: u32,
     centre: Cell,
 ) -> CircleAnswer
-    ensures { λ r. ⌜ record {
-      answer = circleAnswer r;
-      sums = now (sums .exit);
-    } ≡ circleCall (record { globe = record { grid = grid; angles = now (angles .entry); cosines = now (cosines .entry) }; counts = now (counts .entry) }) (now (sums .entry)) km centre ⌝ }
+    ensures { λ r. ⌜ circleGave r (now (sums .exit))
+        ≡ circleCall (lentMap grid (now (counts .entry)) (now (angles .entry)) (now (cosines .entry))) (now (sums .entry)) km centre ⌝ }
 {
     let refusal = circle_refusal(grid, counts, angles, cosines, sums, km, centre);
     if refusal != 0 {
         return CircleAnswer::Refused(refusal);
     }
-    table::fill_sums(grid, counts, sums);
+    sums::fill_sums(grid, counts, sums);
     let kernel = crate::build(grid, angles, centre.row, km as f64);
-    let people = crate::circle_population(
+    let population = crate::circle_population(
         grid,
         sums,
         kernel.north,
@@ -71,5 +73,5 @@ pub fn circle(
         &kernel.run,
         centre.col,
     );
-    CircleAnswer::Population(people)
+    CircleAnswer::Population(population)
 }

@@ -7,13 +7,15 @@ ghost use lib.Dec.{ltb};
 ghost use Rattle.grid.specs.Questions.{sizesInRange};
 ghost use Rattle.kernel.specs.Kernel.{kernelCovers};
 
-// The columns of a row up to half a turn either side are all of them.
+// No column is farther around the ring than half the width, and of an even width the column so far east is the one so far west. A row
+// that reaches it is therefore the full turn, each column once, and not two sides that meet in a column counted twice.
 fn full_turn(closing: u32, reach: u8) -> bool
     ensures { λ r. ⌜ r ≡ ltb closing reach ⌝ }
 {
     closing < reach as u32
 }
 
+// Whether the circles of a kernel are the whole grid: every row is a full turn.
 pub fn covers(grid: Grid, kernel: Kernel) -> bool
     requires { ⌜ sizesInRange grid ≡ true ⌝ }
     ensures { λ r. ⌜ r ≡ kernelCovers grid kernel ⌝ }

@@ -13,6 +13,9 @@ pub use cover::covers;
 use grid::Row;
 pub use outward::within;
 
+// The rows that a kernel has a place for: as many as a grid may have.
+pub const ROWS: usize = grid::MOST_ROWS as usize;
+
 // The circles of a radius around the cells of a row: in each row from north up to end, how many columns from the centre's one on either
 // side are within, the centre's own included, and where the rows of the same reach that follow it end.
 pub struct Kernel {
@@ -20,10 +23,11 @@ pub struct Kernel {
     pub km: f64,
     pub north: u32,
     pub end: u32,
-    pub reach: [u8; 90],
-    pub run: [u8; 90],
+    pub reach: [u8; ROWS],
+    pub run: [u8; ROWS],
 }
 
+// The population of a circle, or the number of the question that refused it.
 pub enum CircleAnswer {
     Population(u64),
     Refused(u32),

@@ -5,8 +5,10 @@ ghost use mathlib.Core.Path.{_≡_};
 ghost use Prim.Native.Nat.{_+_, _-_, _≤_, _<_, min};
 ghost use lib.Ieee.{le};
 ghost use lib.ListN.{length};
-ghost use Rattle.kernel.specs.Kernel.{reach, sheetOf, OnSheet};
-ghost use Rattle.kernel.specs.Walk.{PairOnSheet, passes, Edge, NorthWalked, SouthWalked};
+ghost use Rattle.kernel.specs.Kernel.{reach, rowPlaces};
+ghost use Rattle.grid.specs.Map.{sheetOf};
+ghost use Rattle.kernel.specs.Requires.{OnSheet, PairOnSheet};
+ghost use Rattle.kernel.specs.State.{passes, Edge, NorthWalked, SouthWalked};
 
 // A circle's edge belongs to it.
 pub fn within(angle: f64, limit: f64) -> bool
@@ -73,7 +75,8 @@ fn lesser(a: usize, b: usize) -> usize
 }
 
 // How many offsets of a row lie within an angle: all, where the last is, as in most rows of a very large circle; else found step by step
-// from a guess, which is right or nearly so where it is the reach of the row next to it. Any guess gives the same.
+// from a guess. From row to row outward the reach changes little, so that the neighbour's is a guess with few steps to go, fewer than
+// by halves. Any guess gives the same.
 fn reach_of(grid: Grid, angles: &[f64], centre: Row, row: Row, limit: f64, guess: u8) -> u8
     requires { ⌜ PairOnSheet grid (now angles) centre row ⌝ }
     ensures { λ r. ⌜ r ≡ reach (sheetOf grid (now (angles .entry))) centre row limit ⌝ }
@@ -100,7 +103,7 @@ pub(crate) fn walk_north(
     reaches: &mut [u8],
 ) -> u32
     requires { ⌜ OnSheet grid (now angles) centre ⌝ }
-    requires { ⌜ length (now reaches) ≡ 90 ⌝ }
+    requires { ⌜ length (now reaches) ≡ rowPlaces ⌝ }
     ensures { λ r. ⌜ NorthWalked (sheetOf grid (now (angles .entry))) centre limit (now (reaches .entry)) (now (reaches .exit)) r ⌝ }
 {
     let mut north = centre.0;
@@ -126,7 +129,7 @@ pub(crate) fn walk_south(
     reaches: &mut [u8],
 ) -> u32
     requires { ⌜ OnSheet grid (now angles) centre ⌝ }
-    requires { ⌜ length (now reaches) ≡ 90 ⌝ }
+    requires { ⌜ length (now reaches) ≡ rowPlaces ⌝ }
     ensures { λ r. ⌜ SouthWalked (sheetOf grid (now (angles .entry))) centre limit (now (reaches .entry)) (now (reaches .exit)) r ⌝ }
 {
     let mut end = centre.0;

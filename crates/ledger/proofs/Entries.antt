@@ -1,15 +1,14 @@
 -- Laws of a list of entries: what finding sees of an entering, and what an entering keeps.
-use Prim.Native.Nat.{ℕ, suc, _+_, _≤_, _<_}
-use mathlib.Core.Path.{_≡_, refl, sym, ap, _∙_}
+use Prim.Native.Nat.{ℕ, suc, _+_, _≤_}
+use mathlib.Core.Path.{_≡_, refl, sym, ap}
 use mathlib.Core.Bool.{Bool, true, false}
 use mathlib.Core.List.{List, [], _∷_}
 use native.Mathlib.Omega.{arith}
 use lib.Dec.{leb, ltb, eqb}
 use lib.ListN.{length}
-use borrow.Author.Tests.{leb-true, eqb-true, eqb-false, ltb-true, ltb-false, eq-eqb, ne-eqb, le-leb}
+use borrow.Author.Tests.{eqb-true, eqb-false, ltb-true, ltb-false, eq-eqb, ne-eqb, le-leb}
 use Rattle.lists.proofs.Bools.{and-both, and-left, and-right, cond-case}
 use Rattle.grid.specs.declared.Grid.{Grid}
-use Rattle.candidates.specs.declared.Candidate.{Candidate}
 use Rattle.ledger.specs.declared.Entry.{Entry}
 use Rattle.ledger.specs.declared.Got.{Got}
 use Rattle.ledger.specs.declared.Got.the-variants.{Circle, Nothing}
@@ -65,37 +64,6 @@ length-enter-most (e ∷ es) x =
     cond-case (λ (l : List Entry). length l ≤ suc (suc (length es))) (ltb (x .km .0) (e .km .0)) _ _ (λ t. omega arith)
     (λ t. cond-case (λ (l : List Entry). length l ≤ suc (suc (length es))) (eqb (x .km .0) (e .km .0)) _ _ (λ u. omega arith)
     (λ u. omega (arith, length-enter-most es x)))
-
--- where kilometres rise, none is found below the least
-find-below : (least : ℕ) (es : List Entry) (km : ℕ) → risingFrom least es ≡ true → km < least → find es km ≡ Nothing
-unfolding risingFrom find
-find-below least [] km r h = refl
-find-below least (e ∷ es) km r h =
-    let first = leb-true least (e .km .0) (and-left (leb least (e .km .0)) (risingFrom (e .km .0 + 1) es) r) in
-    let rest = and-right (leb least (e .km .0)) (risingFrom (e .km .0 + 1) es) r in
-    rw (ne-eqb (e .km .0) km (λ k. omega arith)) (find-below (e .km .0 + 1) es km rest (omega arith))
-
--- there a kilometre that is held leaves their number
-pub length-enter-held : (least : ℕ) (es : List Entry) (x : Entry) (c : Candidate) → risingFrom least es ≡ true → find es (x .km .0) ≡ Circle c
-    → length (enter es x) ≡ length es
-unfolding find enter risingFrom
-length-enter-held least [] x c r f = absurd (never f)
-  where
-    never : Nothing ≡ Circle c → ⊥
-    never z = let o : _≡_ {A = ℕ} 0 1 = cc in omega arith
-length-enter-held least (e ∷ es) x c r f =
-    cond-case (λ (l : List Entry). length l ≡ suc (length es)) (ltb (x .km .0) (e .km .0)) _ _
-    (λ t.
-    let u = ltb-true (x .km .0) (e .km .0) t in
-    absurd (never (sym (rw (ne-eqb (e .km .0) (x .km .0) (λ k. omega arith)) (find-below (e .km .0 + 1) es (x .km .0) rest (omega arith))) ∙ f)))
-    (λ t. cond-case (λ (l : List Entry). length l ≡ suc (length es)) (eqb (x .km .0) (e .km .0)) _ _ (λ u. refl)
-    (λ u. ap suc (length-enter-held (e .km .0 + 1) es x c rest (rw (ne-eqb (e .km .0) (x .km .0) (λ k. eqb-false (x .km .0) (e .km .0) u (sym k))) at f))))
-  where
-    rest : risingFrom (e .km .0 + 1) es ≡ true
-    rest = and-right (leb least (e .km .0)) (risingFrom (e .km .0 + 1) es) r
-
-    never : Nothing ≡ Circle c → ⊥
-    never z = let o : _≡_ {A = ℕ} 0 1 = cc in omega arith
 
 -- kilometres stay strictly rising
 pub rising-enter : (least : ℕ) (es : List Entry) (x : Entry) → risingFrom least es ≡ true → least ≤ x .km .0 → risingFrom least (enter es x) ≡ true

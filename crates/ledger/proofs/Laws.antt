@@ -17,7 +17,7 @@ use Rattle.ledger.specs.declared.Ledger.{Ledger}
 use Rattle.ledger.specs.declared.Got.{Got}
 use Rattle.ledger.specs.declared.Got.the-variants.{Circle, Nothing}
 use Rattle.ledger.specs.Ledger.{capacity, entries, withEntries, get, enter, put, entryInBounds, risingFrom, allInBounds, ledgerInOrder, placesFree}
-use Rattle.ledger.proofs.Entries.{there, find-enter-same, find-enter-other, length-enter, length-enter-most, length-enter-held, rising-enter, in-bounds-enter}
+use Rattle.ledger.proofs.Entries.{there, find-enter-same, find-enter-other, length-enter, length-enter-most, rising-enter, in-bounds-enter}
 
 pub entries-with : (l : Ledger) (es : List Entry) → entries (withEntries l es) ≡ es
 unfolding entries withEntries
@@ -28,10 +28,6 @@ module _ (l : Ledger) (x : Entry) where
   pub entries-put : entries (put l x) ≡ enter (entries l) x
   unfolding put
   entries-put = entries-with l (enter (entries l) x)
-
-  pub places-put : put l x .places ≡ onto (enter (entries l) x) (l .places)
-  unfolding put withEntries
-  places-put = refl
 
   pub len-put : put l x .len ≡ length (entries (put l x))
   unfolding put withEntries
@@ -58,11 +54,7 @@ module _ (l : Ledger) (x : Entry) where
   unfolding get
   length-put n = rw entries-put (length-enter (entries l) x n)
 
-  -- at a kilometre held it leaves their number, and no put makes more than one more
-  pub length-put-held : (c : Candidate) → risingFrom 0 (entries l) ≡ true → get l (x .km .0) ≡ Circle c → length (entries (put l x)) ≡ length (entries l)
-  unfolding get
-  length-put-held c r f = rw entries-put (length-enter-held 0 (entries l) x c r f)
-
+  -- no put makes more than one more
   pub length-put-most : length (entries (put l x)) ≤ suc (length (entries l))
   length-put-most = rw entries-put (length-enter-most (entries l) x)
 

@@ -3,7 +3,7 @@
 --     Says g l x a z       what a put of x into l promises of its answer a and of the ledger z after it
 use denote.Struct.Laws as LL
 use denote.Enum.Laws as EL
-use Rattle.walks.proofs.Walks.{_≡_, URA, Heap, Atoms, Given, Val, Law, structLaw, enumLaw}
+use Rattle.hand_proofs.proofs.Walks.{_≡_, URA, Heap, Atoms, Given, Val, Law, structLaw, enumLaw}
 use Rattle.grid.specs.declared.Grid.{Grid}
 use Rattle.grid.proofs.Grid as G
 use Rattle.grid.proofs.Grid.Laws as G′

@@ -16,7 +16,7 @@ use Rattle.ledger.specs.declared.Entry.{Entry}
 use Rattle.ledger.specs.declared.Got.the-variants.{Circle}
 use Rattle.ledger.specs.declared.Ledger.{Ledger}
 use Rattle.ledger.specs.Ledger.{capacity, entry, entries, find, get, put, entryInBounds, risingFrom, allInBounds, ledgerInOrder}
-use Rattle.ledger.specs.Places.{InBounds}
+use Rattle.ledger.specs.Requires.{InBounds}
 use Rattle.ledger.proofs.Laws.{len-put, length-put-most, rising-put, in-bounds-put, in-order}
 
 all-three : (a b c : Bool) → (a && b && c) ≡ true → (a ≡ true) × (b ≡ true) × (c ≡ true)

@@ -18,7 +18,7 @@ use Rattle.ledger.specs.declared.Entry.{Entry}
 use Rattle.ledger.specs.declared.Ledger.{Ledger}
 use Rattle.ledger.specs.declared.Got.the-variants.{Circle}
 use Rattle.ledger.specs.Ledger.{capacity, entries, find, entryInBounds, risingFrom, allInBounds, ledgerInOrder}
-use Rattle.ledger.specs.Places.{placeOf}
+use Rattle.ledger.specs.State.{placeOf}
 
 pub length-entries : (l : Ledger) → length (l .places) ≡ capacity → length (entries l) ≡ min (l .len) capacity
 unfolding entries

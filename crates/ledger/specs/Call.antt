@@ -1,14 +1,13 @@
 -- The put call.
-use Prim.Native.Nat.{ℕ}
 use mathlib.Core.Bool.{Bool, true, _&&_}
 use mathlib.Core.List.{List, [], _∷_, _++_}
 use Rattle.grid.specs.declared.Grid.{Grid}
 use Rattle.grid.specs.Answer.{Question, question, firstNo, Answer, answered, refused, decide, after}
 use Rattle.grid.specs.Questions.{gridQuestions}
 use Rattle.ledger.specs.declared.Entry.{Entry}
+use Rattle.ledger.specs.declared.Ledger.{Ledger}
 use Rattle.ledger.specs.declared.Got.{Got}
 use Rattle.ledger.specs.declared.Got.the-variants.{Circle, Nothing}
-use Rattle.ledger.specs.declared.Ledger.{Ledger}
 use Rattle.ledger.specs.declared.PutAnswer.{PutAnswer}
 use Rattle.ledger.specs.declared.PutAnswer.the-variants as put-answer
 use Rattle.ledger.specs.Ledger.{get, put, entryInBounds, ledgerInOrder, placesFree}
@@ -26,17 +25,17 @@ pub record PutOutcome : Type 0 where
   pub answer : Answer (Unit {0})
   pub ledger : Ledger
 
+-- a put, or the first refusal, which leaves the ledger
 unfoldable pub putCall : Grid → Ledger → Entry → PutOutcome
 putCall g l x =
     let answer = decide (firstNo (putQuestions g l x)) tt in
     record { answer = answer; ledger = after answer (put l x) l }
 
--- the document's number for each case of the answer
+-- the specification's number for each case of the answer
 unfoldable pub putAnswer : PutAnswer → Answer (Unit {0})
 putAnswer put-answer.Done = answered tt
 putAnswer (put-answer.Refused n) = refused n
 
--- opens all of the above, for facts that are computed
-unfoldable pub putCalls : Unit {0}
-unfolding placeFor putQuestions putCall putAnswer
-putCalls = tt
+-- what a put has given: its answer, and the ledger as it is then
+abbrev pub putGave : PutAnswer → Ledger → PutOutcome
+putGave answer l = record { answer = putAnswer answer; ledger = l }

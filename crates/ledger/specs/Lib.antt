@@ -1,3 +1,4 @@
 pub mod Ledger
 pub mod Call
-pub mod Places
+pub mod State
+pub mod Requires

@@ -8,7 +8,7 @@ use grid::Grid;
 ghost use mathlib.Core.Path.{_≡_};
 ghost use Rattle.grid.specs.Answer.{firstNo};
 ghost use Rattle.ledger.specs.Ledger.{get};
-ghost use Rattle.ledger.specs.Call.{placeFor, putQuestions, putCall, putAnswer};
+ghost use Rattle.ledger.specs.Call.{placeFor, putQuestions, putCall, putGave};
 
 // Question 12: an entry of the kilometre to replace, or a free place.
 fn place_for(ledger: Ledger, km: u32) -> bool
@@ -40,9 +40,9 @@ fn put_refusal(grid: Grid, ledger: Ledger, entry: Entry) -> u32
     0
 }
 
-// The put by value.
+// The put by value: a refusal gives the ledger back as it came.
 pub fn put_entry(grid: Grid, ledger: Ledger, entry: Entry) -> PutResult
-    ensures { λ r. ⌜ record { answer = putAnswer (r .answer); ledger = r .ledger } ≡ putCall grid ledger entry ⌝ }
+    ensures { λ r. ⌜ putGave (r .answer) (r .ledger) ≡ putCall grid ledger entry ⌝ }
 {
     let refusal = put_refusal(grid, ledger, entry);
     if 0 < refusal {
@@ -60,7 +60,7 @@ pub fn put_entry(grid: Grid, ledger: Ledger, entry: Entry) -> PutResult
 
 // The put that the game calls: it lends its ledger, and the call changes it.
 pub fn put_lent(ledger: &mut Ledger, grid: Grid, entry: Entry) -> PutAnswer
-    ensures { λ r. ⌜ record { answer = putAnswer r; ledger = now (ledger .exit) } ≡ putCall grid (now (ledger .entry)) entry ⌝ }
+    ensures { λ r. ⌜ putGave r (now (ledger .exit)) ≡ putCall grid (now (ledger .entry)) entry ⌝ }
 {
     let before = *ledger;
     let result = put_entry(grid, before, entry);
@@ -69,9 +69,9 @@ pub fn put_lent(ledger: &mut Ledger, grid: Grid, entry: Entry) -> PutAnswer
     result.answer
 }
 
-// From a ledger by value to one that is lent, and back: whoever calls this one needs no walk by hand.
+// From a ledger by value to one that is lent, and back: whoever calls this one needs no proof by hand.
 pub fn put_by_lending(grid: Grid, ledger: Ledger, entry: Entry) -> PutResult
-    ensures { λ r. ⌜ record { answer = putAnswer (r .answer); ledger = r .ledger } ≡ putCall grid ledger entry ⌝ }
+    ensures { λ r. ⌜ putGave (r .answer) (r .ledger) ≡ putCall grid ledger entry ⌝ }
 {
     let mut lent = ledger;
     let answer = put_lent(&mut lent, grid, entry);

@@ -10,16 +10,17 @@ ghost use lib.Dec.{leb, ltb};
 ghost use Rattle.grid.specs.Grid.{ceiling};
 ghost use Rattle.ledger.specs.Ledger.{capacity, entryInBounds, ledgerInOrder, placesFree};
 
-// The largest population, 2^53.
-const MOST_PEOPLE: u64 = 9007199254740992;
+// The largest population, 2^53: up to it a binary64 counts exactly.
+const MOST_POPULATION: u64 = 9007199254740992;
 
+// The answer at the ceiling needs no search, so no entry has its kilometre.
 fn below_ceiling(grid: Grid, km: u32) -> bool
     ensures { λ r. ⌜ r ≡ ltb km (ceiling grid) ⌝ }
 {
     km < RadiusKm::CEILING
 }
 
-// Kilometre at most 20,015, cell on the grid, population at most 2^53.
+// Question 11 of one entry: kilometre below the ceiling, cell on the grid, population at most 2^53.
 pub fn entry_in_bounds(grid: Grid, entry: Entry) -> bool
     ensures { λ r. ⌜ r ≡ entryInBounds grid entry ⌝ }
 {
@@ -32,7 +33,7 @@ pub fn entry_in_bounds(grid: Grid, entry: Entry) -> bool
     if !grid::on_grid(grid, Cell { row, col }) {
         return false;
     }
-    centre.population <= MOST_PEOPLE
+    centre.population <= MOST_POPULATION
 }
 
 // Whether an entry is in bounds and its kilometre is not below the least that may follow.
@@ -45,13 +46,14 @@ fn follows(grid: Grid, least: u32, entry: Entry) -> bool
     entry_in_bounds(grid, entry)
 }
 
+// Whether so many entries find a place.
 fn counted(len: usize) -> bool
     ensures { λ r. ⌜ r ≡ leb len capacity ⌝ }
 {
     len <= Ledger::CAPACITY
 }
 
-// Question 11: at most 512 entries, kilometres strictly rising, each entry in bounds.
+// Question 11: no more entries than places, kilometres strictly rising, each entry in bounds.
 pub fn ledger_in_order(grid: Grid, ledger: Ledger) -> bool
     ensures { λ r. ⌜ r ≡ ledgerInOrder grid ledger ⌝ }
 {

@@ -28,20 +28,23 @@ pub struct Ledger {
 }
 
 impl Ledger {
+    // The number of places.
     pub const CAPACITY: usize = 512;
 }
 
+// What a ledger holds of a kilometre.
 pub enum Got {
     Circle(Candidate),
     Nothing,
 }
 
+// Put, or refused with the number of the first question that was answered no.
 pub enum PutAnswer {
     Done,
     Refused(u32),
 }
 
-// A put's answer beside the ledger after it.
+// A put's answer beside the ledger after it: an enum cannot hold the places.
 pub struct PutResult {
     pub answer: PutAnswer,
     pub ledger: Ledger,

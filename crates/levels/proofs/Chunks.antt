@@ -19,14 +19,13 @@ use Rattle.grid.specs.declared.Grid.{Grid}
 use Rattle.grid.specs.Map.{Map}
 use Rattle.blocks.specs.declared.Block.{Block}
 use Rattle.blocks.specs.Block.{area, split, Rectangle}
-use Rattle.blocks.specs.Word.{wordOf, blocksOf, Written}
+use Rattle.blocks.specs.State.{wordOf, blocksOf, Written}
 use Rattle.blocks.proofs.Tiles.{length-area}
 use Rattle.candidates.specs.declared.Held.{Held}
 use Rattle.levels.specs.declared.ChunkResult.{ChunkResult}
-use Rattle.levels.specs.Level.{stats, tally, Outcome, chunk, chunks, joined}
-use Rattle.levels.specs.Weight.{weight, statsWeight}
-use Rattle.levels.specs.Work.{mapOf}
-use Rattle.levels.specs.Buffer.{blocksFrom, children, CanSweep, ChunkWords, Swept, levelOf, joinedResults}
+use Rattle.levels.specs.Level.{stats, tally, Outcome, chunk, chunks, joined, levelInOrder}
+use Rattle.levels.specs.State.{weight, statsWeight, summedMap, blocksFrom, children, Swept, joinedResults}
+use Rattle.levels.specs.Requires.{mostCells, CanSweep, ChunkWords}
 use Rattle.levels.proofs.Rule.{begun, chunks-rule, chunks-enough, chunks-whole, all-of-concat}
 use Rattle.levels.proofs.Counts.{ended, Counts, counts-kept, next-fits}
 use Rattle.levels.proofs.Spans.{span-none, span-cut, span-length, span-first}
@@ -87,47 +86,38 @@ module _ (m : Map) (km : Float) (best : Held) where
     unfolding concatEach
     up-room = next-fits g (length ps) (begun best) (joinedUp ps) (concatEach (λ p. p) ps) up-counts refl refl rs
 
-    up-light : length ps ≤ 4 → total area (concatEach (λ p. p) ps) ≤ 16200 → weight (joinedUp ps .tally) ≤ 100000
+    up-light : length ps ≤ 4 → total area (concatEach (λ p. p) ps) ≤ mostCells → weight (joinedUp ps .tally) ≤ 100000
     unfolding weight statsWeight
     up-light few h =
         let c = up-counts in
         omega (arith, c .levels, c .examined, c .either, c .kernels, up-room, length-area g rs)
 
-  module _ (c : List Block) (rs : AllOf (Rectangle g) c) where
-    chunk-room : length (children (chunk m km best c)) + ended (chunk m km best c .tally) ≤ total area c
-    unfolding chunk
-    chunk-room = sofar-room m km best rs
-
-    chunk-light : total area c ≤ 16200 → weight (chunk m km best c .tally) ≤ 100000
-    unfolding chunk
-    chunk-light h = sofar-light m km best rs h
-
 -- ---- the loop
 
-blocks-count : (near : List ℕ) (n : ℕ) → n ≤ length near → length (blocksOf n near) ≡ n
-blocks-count near n words = ap (length {A = Block}) (sym (span-first near n)) ∙ span-length near 0 n (omega arith) words ∙ (omega arith)
+blocks-count : (current : List ℕ) (n : ℕ) → n ≤ length current → length (blocksOf n current) ≡ n
+blocks-count current n words = ap (length {A = Block}) (sym (span-first current n)) ∙ span-length current 0 n (omega arith) words ∙ (omega arith)
 
-pub blocks-few : (g : Grid) (near : List ℕ) (n : ℕ) (far : List ℕ) → n ≤ length near → CanSweep g (blocksOf n near) far 0 → n ≤ 16200
-blocks-few g near n far words can = omega (arith, blocks-count near n words, length-area g (can .rectangles), can .narrow)
+pub blocks-few : (g : Grid) (current : List ℕ) (n : ℕ) (following : List ℕ) → n ≤ length current → CanSweep g (blocksOf n current) following 0 → n ≤ mostCells
+blocks-few g current n following words can = omega (arith, blocks-count current n words, length-area g (can .rectangles), can .narrow)
 
-module _ (gr : Grid) (angles cosines : List Float) (sums : List ℕ) (near : List ℕ) (n : ℕ) (km : Float) (best : Held) (far₀ : List ℕ) (size : ℕ) where
+module _ (gr : Grid) (angles cosines : List Float) (sums : List ℕ) (current : List ℕ) (n : ℕ) (km : Float) (best : Held) (following₀ : List ℕ) (size : ℕ) where
   abbrev the-map : Map
-  the-map = mapOf gr angles cosines sums
+  the-map = summedMap gr angles cosines sums
 
   abbrev blocks : List Block
-  blocks = blocksOf n near
+  blocks = blocksOf n current
 
-  pub record Leveling (far : List ℕ) (r : ChunkResult) (start : ℕ) : Type 0 where
+  pub record Leveling (following : List ℕ) (r : ChunkResult) (start : ℕ) : Type 0 where
     pub place : start ≤ n
-    pub room : length far ≡ length far₀
+    pub room : length following ≡ length following₀
     pub done : List (List Block)
     pub few : length done ≤ 4
-    pub cut : chunks blocks ≡ done ++ pieces (4 - length done) size (blocksFrom start n near)
-    pub whole : concatEach (λ p. p) done ≡ blocksFrom 0 start near
-    pub swept : Swept (joinedUp the-map km best done) far₀ 0 far r
+    pub cut : chunks blocks ≡ done ++ pieces (4 - length done) size (blocksFrom start n current)
+    pub whole : concatEach (λ p. p) done ≡ blocksFrom 0 start current
+    pub swept : Swept (joinedUp the-map km best done) following₀ 0 following r
 
-  module _ (size-is : size ≡ divCeil n (max 1 (min 4 n))) (words : n ≤ length near) (can : CanSweep gr blocks far₀ 0) where
-    pub level-start : Leveling far₀ (record { held = best; tally = tally (stats 1 0 0 0 0) 0 0; live = 0 }) 0
+  module _ (size-is : size ≡ divCeil n (max 1 (min 4 n))) (words : n ≤ length current) (can : CanSweep gr blocks following₀ 0) where
+    pub level-start : Leveling following₀ (record { held = best; tally = tally (stats 1 0 0 0 0) 0 0; live = 0 }) 0
     unfolding chunks fold each concatEach
     level-start =
         record {
@@ -135,17 +125,17 @@ module _ (gr : Grid) (angles cosines : List Float) (sums : List ℕ) (near : Lis
           room = refl;
           done = [];
           few = omega arith;
-          cut = rw (span-first near n, blocks-count near n words, ← size-is);
-          whole = sym (span-none near 0);
-          swept = record { held = refl; counts = refl; written = written-nothing far₀ 0 };
+          cut = rw (span-first current n, blocks-count current n words, ← size-is);
+          whole = sym (span-none current 0);
+          swept = record { held = refl; counts = refl; written = written-nothing following₀ 0 };
         }
 
-    module _ (far : List ℕ) (r : ChunkResult) (start : ℕ) (s : Leveling far r start) where
+    module _ (following : List ℕ) (r : ChunkResult) (start : ℕ) (s : Leveling following r start) where
       done-all : AllOf (Rectangle gr) (concatEach (λ p. p) (s .done))
       done-all =
           rw (s .whole)
-          (all-left (blocksFrom 0 start near) (blocksFrom start n near)
-          (rw (sym (span-cut near 0 start n (omega arith) (s .place)) ∙ span-first near n) (can .rectangles)))
+          (all-left (blocksFrom 0 start current) (blocksFrom start n current)
+          (rw (sym (span-cut current 0 start n (omega arith) (s .place)) ∙ span-first current n) (can .rectangles)))
 
       module _ (end : ℕ) (end-is : end ≡ min (start + size) n) (h : start < n) where
         pub level-on : start < end
@@ -155,20 +145,20 @@ module _ (gr : Grid) (angles cosines : List Float) (sums : List ℕ) (near : Lis
         to = omega arith
 
         abbrev next : List Block
-        next = blocksFrom start end near
+        next = blocksFrom start end current
 
-        rest-is : blocksFrom start n near ≡ next ++ blocksFrom end n near
-        rest-is = span-cut near start end n (omega (arith, level-on)) to
+        rest-is : blocksFrom start n current ≡ next ++ blocksFrom end n current
+        rest-is = span-cut current start end n (omega (arith, level-on)) to
 
         next-length : length next ≡ end - start
-        next-length = span-length near start end (omega (arith, level-on)) (omega arith)
+        next-length = span-length current start end (omega (arith, level-on)) (omega arith)
 
-        parts : blocks ≡ blocksFrom 0 start near ++ (next ++ blocksFrom end n near)
+        parts : blocks ≡ blocksFrom 0 start current ++ (next ++ blocksFrom end n current)
         parts =
-            sym (span-first near n) ∙ span-cut near 0 start n (omega arith) (s .place) ∙ ap (λ (x : List Block). blocksFrom 0 start near ++ x) rest-is
+            sym (span-first current n) ∙ span-cut current 0 start n (omega arith) (s .place) ∙ ap (λ (x : List Block). blocksFrom 0 start current ++ x) rest-is
 
         next-all : AllOf (Rectangle gr) next
-        next-all = all-left next (blocksFrom end n near) (all-right (blocksFrom 0 start near) (rw parts at (can .rectangles)))
+        next-all = all-left next (blocksFrom end n current) (all-right (blocksFrom 0 start current) (rw parts at (can .rectangles)))
 
         areas : total area (concatEach (λ p. p) (s .done)) + total area next ≤ total area blocks
         areas =
@@ -176,8 +166,8 @@ module _ (gr : Grid) (angles cosines : List Float) (sums : List ℕ) (near : Lis
               arith,
               ap (total area) (s .whole),
               ap (total area) parts,
-              total-append area (blocksFrom 0 start near) (next ++ blocksFrom end n near),
-              total-append area next (blocksFrom end n near),
+              total-append area (blocksFrom 0 start current) (next ++ blocksFrom end n current),
+              total-append area next (blocksFrom end n current),
             )
 
         live-is : r .live ≡ length (children (joinedUp the-map km best (s .done)))
@@ -186,10 +176,10 @@ module _ (gr : Grid) (angles cosines : List Float) (sums : List ℕ) (near : Lis
         live-few : r .live ≤ total area (concatEach (λ p. p) (s .done))
         live-few = omega (arith, live-is, up-room the-map km best (s .done) done-all)
 
-        pub level-words : ChunkWords near start end
+        pub level-words : ChunkWords current start end
         level-words = record { order = omega (arith, level-on); words = omega arith }
 
-        pub level-sweeps : CanSweep gr next far (r .live)
+        pub level-sweeps : CanSweep gr next following (r .live)
         level-sweeps =
             record {
               rectangles = next-all;
@@ -197,14 +187,15 @@ module _ (gr : Grid) (angles cosines : List Float) (sums : List ℕ) (near : Lis
               room = omega (arith, live-few, areas, can .room, s .room);
             }
 
-        module _ (part : ChunkResult) (far′ : List ℕ) (swept : Swept (chunk the-map km best next) far (r .live) far′ part) where
+        module _ (part : ChunkResult) (following′ : List ℕ) (swept : Swept (chunk the-map km best next) following (r .live) following′ part) where
           pub level-light : weight (r .tally) + weight (part .tally) ≤ 2 ^ 31
+          unfolding chunk
           level-light =
               rw (s .swept .counts, swept .counts)
               (omega (
                 arith,
                 up-light the-map km best (s .done) done-all (s .few) (omega (arith, areas, can .narrow)),
-                chunk-light the-map km best next next-all (omega (arith, areas, can .narrow)),
+                sofar-light the-map km best next-all (omega (arith, areas, can .narrow)),
               ))
 
           -- the fourth chunk is the last
@@ -214,56 +205,57 @@ module _ (gr : Grid) (angles cosines : List Float) (sums : List ℕ) (near : Lis
             | no p ↦
                 let f : 4 - length (s .done) ≡ 0 = omega arith in
                 let all : chunks blocks ≡ s .done =
-                s .cut ∙ ap (λ (k : ℕ). s .done ++ pieces k size (blocksFrom start n near)) f
-                ∙ ap (λ (x : List (List Block)). s .done ++ x) (pieces-out size (blocksFrom start n near)) ∙ append-nil (s .done) in
-                let l : blocks ≡ blocksFrom 0 start near = sym (chunks-whole blocks) ∙ ap (concatEach (λ p. p)) all ∙ s .whole in
-                absurd (omega (arith, ap (length {A = Block}) l, blocks-count near n words, span-length near 0 start (omega arith) (omega (arith, s .place))))
+                s .cut ∙ ap (λ (k : ℕ). s .done ++ pieces k size (blocksFrom start n current)) f
+                ∙ ap (λ (x : List (List Block)). s .done ++ x) (pieces-out size (blocksFrom start n current)) ∙ append-nil (s .done) in
+                let l : blocks ≡ blocksFrom 0 start current = sym (chunks-whole blocks) ∙ ap (concatEach (λ p. p)) all ∙ s .whole in
+                absurd (omega (arith, ap (length {A = Block}) l, blocks-count current n words, span-length current 0 start (omega arith) (omega (arith, s .place))))
           ]
 
           -- what is cut off next is the chunk at hand
-          front : take size (blocksFrom start n near) ≡ next
+          front : take size (blocksFrom start n current) ≡ next
           front = elim (decLt (start + size) n) [
-            | yes p ↦ rw rest-is (take-at next (blocksFrom end n near) size (omega (arith, next-length)))
+            | yes p ↦ rw rest-is (take-at next (blocksFrom end n current) size (omega (arith, next-length)))
             | no p ↦
                 let e : end ≡ n = omega arith in
-                take-all size (blocksFrom start n near) (omega (arith, span-length near start n (s .place) words)) ∙ ap (λ (k : ℕ). blocksFrom start k near) (sym e)
+                take-all size (blocksFrom start n current) (omega (arith, span-length current start n (s .place) words)) ∙ ap (λ (k : ℕ). blocksFrom start k current) (sym e)
           ]
 
-          back : drop size (blocksFrom start n near) ≡ blocksFrom end n near
+          back : drop size (blocksFrom start n current) ≡ blocksFrom end n current
           back = elim (decLt (start + size) n) [
-            | yes p ↦ rw rest-is (drop-at next (blocksFrom end n near) size (omega (arith, next-length)))
+            | yes p ↦ rw rest-is (drop-at next (blocksFrom end n current) size (omega (arith, next-length)))
             | no p ↦
                 let e : end ≡ n = omega arith in
-                drop-of-length-le (blocksFrom start n near) {i = size} (omega (arith, span-length near start n (s .place) words)) ∙ sym (span-none near n)
-                ∙ ap (λ (k : ℕ). blocksFrom k n near) (sym e)
+                drop-of-length-le (blocksFrom start n current) {i = size} (omega (arith, span-length current start n (s .place) words)) ∙ sym (span-none current n)
+                ∙ ap (λ (k : ℕ). blocksFrom k n current) (sym e)
           ]
 
-          cut-more : chunks blocks ≡ (s .done ++ next ∷ []) ++ pieces (4 - (length (s .done) + 1)) size (blocksFrom end n near)
+          cut-more : chunks blocks ≡ (s .done ++ next ∷ []) ++ pieces (4 - (length (s .done) + 1)) size (blocksFrom end n current)
           cut-more =
               let k = 4 - (length (s .done) + 1) in
               let f : 4 - length (s .done) ≡ suc k = omega (arith, three) in
-              s .cut ∙ ap (λ (x : ℕ). s .done ++ pieces x size (blocksFrom start n near)) f
+              s .cut ∙ ap (λ (x : ℕ). s .done ++ pieces x size (blocksFrom start n current)) f
               ∙ ap (λ (x : List (List Block)). s .done ++ x)
-              (pieces-more k size (blocksFrom start n near) (omega (arith, span-length near start n (s .place) words))
-              ∙ ap (λ (x : List Block). x ∷ pieces k size (drop size (blocksFrom start n near))) front ∙ ap (λ (x : List Block). next ∷ pieces k size x) back)
-              ∙ sym (append-assoc (s .done) (next ∷ []) (pieces k size (blocksFrom end n near)))
+              (pieces-more k size (blocksFrom start n current) (omega (arith, span-length current start n (s .place) words))
+              ∙ ap (λ (x : List Block). x ∷ pieces k size (drop size (blocksFrom start n current))) front ∙ ap (λ (x : List Block). next ∷ pieces k size x) back)
+              ∙ sym (append-assoc (s .done) (next ∷ []) (pieces k size (blocksFrom end n current)))
 
           abbrev before : Outcome
           before = joinedUp the-map km best (s .done)
 
-          words-fit : length (each wordOf (children before)) + length (each wordOf (children (chunk the-map km best next))) ≤ length far₀
+          words-fit : length (each wordOf (children before)) + length (each wordOf (children (chunk the-map km best next))) ≤ length following₀
+          unfolding chunk
           words-fit =
               omega (
                 arith,
                 length-each wordOf (children before),
                 length-each wordOf (children (chunk the-map km best next)),
                 up-room the-map km best (s .done) done-all,
-                chunk-room the-map km best next next-all,
+                sofar-room the-map km best next-all,
                 areas,
                 can .room,
               )
 
-          pub level-next : Leveling far′ (joinedResults r part) end
+          pub level-next : Leveling following′ (joinedResults r part) end
           unfolding joinedResults joined
           level-next =
               let count = length-append (s .done) (next ∷ []) in
@@ -275,27 +267,27 @@ module _ (gr : Grid) (angles cosines : List Float) (sums : List ℕ) (near : Lis
               ∙ ap (each wordOf) (sym (children-join the-map km best before (chunk the-map km best next)) ∙ ap (λ (o : Outcome). children o) (sym more)) in
               record {
                 place = to;
-                room = written-size far far′ (r .live) (part .live) new (omega (arith, words-fit, live-is, length-each wordOf (children before), s .room)) (swept .written) ∙ s .room;
+                room = written-size following following′ (r .live) (part .live) new (omega (arith, words-fit, live-is, length-each wordOf (children before), s .room)) (swept .written) ∙ s .room;
                 done = s .done ++ next ∷ [];
                 few = omega (arith, three, count);
-                cut = cut-more ∙ ap (λ (k : ℕ). (s .done ++ next ∷ []) ++ pieces (4 - k) size (blocksFrom end n near)) (sym count);
+                cut = cut-more ∙ ap (λ (k : ℕ). (s .done ++ next ∷ []) ++ pieces (4 - k) size (blocksFrom end n current)) (sym count);
                 whole =
-                    concat-snoc (λ p. p) (s .done) next ∙ ap (λ (x : List Block). x ++ next) (s .whole) ∙ sym (span-cut near 0 start end (omega arith) (omega (arith, level-on)));
+                    concat-snoc (λ p. p) (s .done) next ∙ ap (λ (x : List Block). x ++ next) (s .whole) ∙ sym (span-cut current 0 start end (omega arith) (omega (arith, level-on)));
                 swept = record {
                   held = rw (more, s .swept .held, swept .held);
                   counts = rw (more, s .swept .counts, swept .counts);
                   written =
-                      subst (λ (x : List ℕ). Written far₀ 0 x far′ (part .live)) all-words
-                      (written-then far₀ far far′ 0 (r .live) (part .live) old new (omega (arith, words-fit)) (s .swept .written) (swept .written));
+                      subst (λ (x : List ℕ). Written following₀ 0 x following′ (part .live)) all-words
+                      (written-then following₀ following following′ 0 (r .live) (part .live) old new (omega (arith, words-fit)) (s .swept .written) (swept .written));
                 };
               }
 
-      pub level-done : n ≤ start → Swept (levelOf the-map km best blocks) far₀ 0 far r
-      unfolding levelOf
+      pub level-done : n ≤ start → Swept (levelInOrder the-map km best blocks) following₀ 0 following r
+      unfolding levelInOrder
       level-done h =
           let e : start ≡ n = omega (arith, s .place) in
           let all : s .done ≡ chunks blocks =
           sym (append-nil (s .done)) ∙ ap (λ (x : List (List Block)). s .done ++ x)
-          (sym (pieces-none (4 - length (s .done)) size) ∙ ap (pieces (4 - length (s .done)) size) (sym (span-none near n) ∙ ap (λ (k : ℕ). blocksFrom k n near) (sym e)))
+          (sym (pieces-none (4 - length (s .done)) size) ∙ ap (pieces (4 - length (s .done)) size) (sym (span-none current n) ∙ ap (λ (k : ℕ). blocksFrom k n current) (sym e)))
           ∙ sym (s .cut) in
-          subst (λ (ps : List (List Block)). Swept (joinedUp the-map km best ps) far₀ 0 far r) all (s .swept)
+          subst (λ (ps : List (List Block)). Swept (joinedUp the-map km best ps) following₀ 0 following r) all (s .swept)

@@ -29,7 +29,7 @@ use Rattle.levels.proofs.Rule.{Kept, level-rule, chunks-few}
 -- ---- the next level
 
 -- a rectangle that n levels split into single cells
-pub record Small (g : Grid) (n : ℕ) (b : Block) : Type 0 where
+pub record Splits (g : Grid) (n : ℕ) (b : Block) : Type 0 where
   pub rectangle : Rectangle g b
   pub short : extent b < n
 
@@ -37,8 +37,8 @@ pub record Small (g : Grid) (n : ℕ) (b : Block) : Type 0 where
 abbrev pub next : Outcome → List Block
 next o = concatEach split (o .survivors)
 
-children-small : (g : Grid) (n : ℕ) (b : Block) → Small g (suc n) b → AllOf (Small g n) (split b)
-children-small g n b s =
+children-split : (g : Grid) (n : ℕ) (b : Block) → Splits g (suc n) b → AllOf (Splits g n) (split b)
+children-split g n b s =
     all-zip (λ c r l. record { rectangle = r; short = omega (arith, s .short) }) (split-rectangle g b (s .rectangle)) (split-shorter g b (s .rectangle))
 
 area-snoc : (xs : List Block) (b : Block) → total area (concatEach split (xs ++ b ∷ [])) ≡ total area (concatEach split xs) + total area (split b)
@@ -59,7 +59,7 @@ decided t = t .stats .«blocks_pruned» + t .stats .«circles_evaluated»
 
 pub record Counts (g : Grid) (n : ℕ) (o p : Outcome) (bs : List Block) : Type 0 where
   pub cells : ended (p .tally) + total area (next p) ≡ ended (o .tally) + total area (next o) + total area bs
-  pub small : (k : ℕ) → AllOf (Small g (suc k)) bs → AllOf (Small g k) (next o) → AllOf (Small g k) (next p)
+  pub small : (k : ℕ) → AllOf (Splits g (suc k)) bs → AllOf (Splits g k) (next o) → AllOf (Splits g k) (next p)
   pub levels : p .tally .stats .levels ≡ o .tally .stats .levels
   pub examined : p .tally .stats .«blocks_examined» ≡ o .tally .stats .«blocks_examined» + length bs
   pub either : decided (p .tally) ≡ decided (o .tally) + length bs
@@ -67,16 +67,16 @@ pub record Counts (g : Grid) (n : ℕ) (o p : Outcome) (bs : List Block) : Type 
   -- two kernels at most for a block, and two to start a chunk
   pub kernels : p .tally .stats .«kernels_built» ≤ o .tally .stats .«kernels_built» + 2 * length bs + 2 * n
 
-one-le : (b : Bool) → one b ≤ 1
+pub one-le : (b : Bool) → one b ≤ 1
 unfolding one
 one-le true = omega arith
 one-le false = omega arith
 
-wide-le : (w : Work) (b : Block) (wide : Float) → wideBuilt w b wide ≤ 1
+pub wide-le : (w : Work) (b : Block) (wide : Float) → wideBuilt w b wide ≤ 1
 unfolding wideBuilt
 wide-le w b wide = one-le _
 
-exact-le : (w : Work) (b : Block) → exactBuilt w b ≤ 1
+pub exact-le : (w : Work) (b : Block) → exactBuilt w b ≤ 1
 unfolding exactBuilt
 exact-le w b = one-le _
 
@@ -132,7 +132,7 @@ module _ (g : Grid) where
       let old = w .outcome .survivors in
       record {
         cells = omega (arith, area-snoc old b, split-settled g b r);
-        small = λ k s a. rw (concat-snoc split old b) (all-append a (children-small g k b (head s)));
+        small = λ k s a. rw (concat-snoc split old b) (all-append a (children-split g k b (head s)));
         levels = omega arith;
         examined = omega arith;
         either = omega arith;
@@ -166,14 +166,14 @@ module _ (g : Grid) where
 -- ---- the room that the next level takes, at any place of a level
 
 -- on the grid a rectangle is split within width + height levels
-pub rectangle-small : (g : Grid) (b : Block) → Rectangle g b → Small g (g .width + g .height) b
-rectangle-small g b r = record { rectangle = r; short = omega (arith, r .south, r .east) }
+pub rectangle-splits : (g : Grid) (b : Block) → Rectangle g b → Splits g (g .width + g .height) b
+rectangle-splits g b r = record { rectangle = r; short = omega (arith, r .south, r .east) }
 
 next-rectangles : (g : Grid) (n : ℕ) (o p : Outcome) (bs : List Block) → Counts g n o p bs → next o ≡ [] → AllOf (Rectangle g) bs → AllOf (Rectangle g) (next p)
 next-rectangles g n o p bs s e rs =
-    all-map (λ b t. t .rectangle) (s .small (g .width + g .height) (all-map (λ b r. larger b (rectangle-small g b r)) rs) (rw e none))
+    all-map (λ b t. t .rectangle) (s .small (g .width + g .height) (all-map (λ b r. larger b (rectangle-splits g b r)) rs) (rw e none))
   where
-    larger : (b : Block) → Small g (g .width + g .height) b → Small g (suc (g .width + g .height)) b
+    larger : (b : Block) → Splits g (g .width + g .height) b → Splits g (suc (g .width + g .height)) b
     larger b t = record { rectangle = t .rectangle; short = omega (arith, t .short) }
 
 -- from nothing on, the blocks of the next level are at most as many as the cells of the blocks examined
@@ -194,7 +194,7 @@ counts-kept m km best =
 -- what a level of the blocks bs comes to
 pub record LevelCounts (g : Grid) (p : Outcome) (bs : List Block) : Type 0 where
   pub cells : ended (p .tally) + total area (next p) ≡ total area bs
-  pub small : (k : ℕ) → AllOf (Small g (suc k)) bs → AllOf (Small g k) (next p)
+  pub small : (k : ℕ) → AllOf (Splits g (suc k)) bs → AllOf (Splits g k) (next p)
   pub levels : p .tally .stats .levels ≡ 1
   pub examined : p .tally .stats .«blocks_examined» ≡ length bs
   pub either : decided (p .tally) ≡ length bs

@@ -14,33 +14,37 @@ use Rattle.lists.proofs.Sums.{times-le}
 use Rattle.grid.specs.declared.Cell.{Cell}
 use Rattle.grid.specs.declared.Grid.{Grid}
 use Rattle.grid.specs.Grid.{closing}
-use Rattle.grid.specs.Map.{Map}
+use Rattle.grid.specs.Map.{Map, globeOf, sheetOf}
 use Rattle.grid.specs.Questions.{sheetComplete}
 use Rattle.grid.proofs.Sizes.{Sizes, grid-sizes}
 use Rattle.grid.proofs.SheetOrder.{InOrder, in-order}
-use Rattle.table.specs.Summed.{tableMap}
+use Rattle.sums.specs.State.{tableMap}
 use Rattle.kernel.specs.declared.Kernel.{Kernel}
 use Rattle.kernel.specs.Circle.{population}
-use Rattle.kernel.specs.Kernel.{kernelOf, kernelPopulation, globeOf, sheetOf, Sheet, Placed, Banded, Joined}
+use Rattle.kernel.specs.Kernel.{kernelOf, kernelPopulation}
+use Rattle.kernel.specs.Requires.{Sheet, Placed, Banded, Joined}
 use Rattle.kernel.proofs.Placing.{rowsOf, rows-placed, rows-people, sheet-banded, sheet-joined, sheet-people}
 use Rattle.blocks.specs.declared.Block.{Block}
 use Rattle.blocks.specs.Block.{area, isCell, probe, Rectangle}
-use Rattle.blocks.specs.Word.{Small}
+use Rattle.blocks.specs.Requires.{Small}
 use Rattle.blocks.proofs.Tiles.{probe-held}
 use Rattle.blocks.proofs.Words.{rectangle-small}
 use Rattle.bounds.specs.Bound.{wideKm}
+use Rattle.candidates.specs.declared.Held.{Held}
+use Rattle.candidates.specs.declared.Held.the-variants.{Best}
+use Rattle.candidates.specs.Candidate.{candidateOf, candidate, betterHeld, prunes}
 use Rattle.levels.specs.declared.Tally.{Tally}
 use Rattle.levels.specs.declared.ChunkWork.{ChunkWork}
-use Rattle.candidates.specs.Candidate.{candidate, prunes}
-use Rattle.levels.specs.Level.{stats, tally, wideBuilt, exactBuilt, pruned, evaluated, examine}
-use Rattle.levels.specs.Weight.{weight, statsWeight}
-use Rattle.levels.specs.Work.{mapOf, Ready, workOf, CanCount, prunedWork, evaluatedWork}
+use Rattle.levels.specs.Level.{stats, tally, plus, wideBuilt, exactBuilt, pruned, evaluated, examine}
+use Rattle.levels.specs.State.{weight, statsWeight, summedMap, workOf, prunedWork, evaluatedWork}
+use Rattle.levels.specs.Requires.{mostCells, Ready, CanCount}
+use Rattle.levels.proofs.Counts.{one-le, wide-le, exact-le}
 
 -- ---- a map that is ready
 
 module _ (g : Grid) (angles cosines : List Float) (sums : List ℕ) (t : Ready g angles cosines sums) where
   abbrev m : Map
-  m = mapOf g angles cosines sums
+  m = summedMap g angles cosines sums
 
   pub ready-sizes : Sizes g
   ready-sizes = grid-sizes g (t .sizes)
@@ -67,7 +71,7 @@ module _ (g : Grid) (angles cosines : List Float) (sums : List ℕ) (t : Ready g
     pub block-small : Small b
     block-small = rectangle-small g (omega (arith, ready-sizes .columns)) (omega (arith, ready-sizes .rows)) b r
 
-    block-narrow : area b ≤ 16200
+    block-narrow : area b ≤ mostCells
     unfolding area
     block-narrow =
         times-le (b .last .0 + 1 - b .first .0) (b .south .0 + 1 - b .north .0) 180 90 (omega (arith, r .east, ready-sizes .columns)) (omega (arith, r .south, ready-sizes .rows))
@@ -95,21 +99,14 @@ module _ (g : Grid) (angles cosines : List Float) (sums : List ℕ) (t : Ready g
 
 -- ---- counts
 
-one-le : (b : Bool) → one b ≤ 1
-unfolding one
-one-le true = omega arith
-one-le false = omega arith
-
 pub one-few : (n : ℕ) (b : Bool) → n ≡ one b → n ≤ 1
 one-few n b e = rw e (one-le b)
 
 pub wide-few : (w : ChunkWork) (b : Block) (wide : Float) → wideBuilt (workOf w []) b wide ≤ 1
-unfolding wideBuilt
-wide-few w b wide = one-le _
+wide-few w b wide = wide-le (workOf w []) b wide
 
 pub exact-few : (w : ChunkWork) (b : Block) → exactBuilt (workOf w []) b ≤ 1
-unfolding exactBuilt
-exact-few w b = one-le _
+exact-few w b = exact-le (workOf w []) b
 
 -- what a block adds
 pub plus-light : (t d : Tally) → weight t ≤ 2 ^ 30 → weight d ≤ 2 ^ 21 → weight t + weight d ≤ 2 ^ 31
@@ -120,6 +117,14 @@ unfolding weight statsWeight
 added-light n p e k a s h₁ h₂ h₃ h₄ h₅ h₆ = omega arith
 
 -- ---- the two ways
+
+-- what an evaluated block leaves, from what each step gave
+pub evaluated-is : (w : ChunkWork) (b : Block) (wide : Float) (people : ℕ) (p : Cell) (held : Held) (sum : Tally) → p ≡ probe b
+    → held ≡ betterHeld (w .held) (Best (candidateOf p people))
+    → sum ≡ plus (w .tally) (tally (stats 0 1 0 1 (wideBuilt (workOf w []) b wide + exactBuilt (workOf w []) b)) 0 (one (isCell b)))
+    → record { held = held; tally = sum; «wide_row» = p .row; «wide_km» = wide; «exact_row» = p .row } ≡ evaluatedWork w b wide people
+unfolding evaluatedWork
+evaluated-is w b wide people p held sum e h s = rw (h, s, e)
 
 turned : (a b : Bool) → a ≡ not b → b ≡ not a
 turned a true e = sym (ap not e)

@@ -15,7 +15,7 @@ use Rattle.grid.specs.Map.{Map}
 use Rattle.blocks.specs.declared.Block.{Block}
 use Rattle.candidates.specs.declared.Held.{Held}
 use Rattle.blocks.specs.Block.{byProbe, Rectangle}
-use Rattle.levels.specs.Level.{stats, tally, Outcome, Work, examine, started, chunk, chunks, joined, level}
+use Rattle.levels.specs.Level.{stats, tally, Outcome, Work, examine, started, chunk, chunks, joined, levelInOrder, level}
 
 -- ---- chunks
 
@@ -92,7 +92,7 @@ module _ (m : Map) (km : Float) (best : Held) (R : ℕ → Outcome → Outcome �
 
   pub level-rule : (bs : List Block) → AllOf (Rectangle (m .globe .grid)) bs
       → R (length (chunks (sort byProbe bs))) (begun best) (level m km best bs) (sort byProbe bs)
-  unfolding level
+  unfolding level levelInOrder
   level-rule bs rs =
       let sorted = sort byProbe bs in
       subst (R (length (chunks sorted)) (begun best) (level m km best bs)) (chunks-whole sorted)

@@ -6,15 +6,16 @@ use native.Mathlib.Omega.{arith}
 use lib.Ieee.{Float}
 use Rattle.grid.specs.declared.Row.{Row}
 use Rattle.grid.specs.declared.Grid.{Grid}
-use Rattle.grid.specs.Map.{Globe}
+use Rattle.grid.specs.Map.{Globe, globeOf, sheetOf}
 use Rattle.kernel.specs.declared.Kernel.{Kernel}
-use Rattle.kernel.specs.Kernel.{kernelOf, globeOf, sheetOf}
+use Rattle.kernel.specs.Kernel.{kernelOf}
 use Rattle.blocks.specs.declared.Block.{Block}
-use Rattle.blocks.specs.Block.{probe, sameShape, Rectangle}
+use Rattle.blocks.specs.Block.{probe, sameShape}
 use Rattle.blocks.proofs.Shapes.{row-path, shape-north, shape-south}
-use Rattle.bounds.specs.Bound.{wideKm, wideKernel}
+use Rattle.bounds.specs.Bound.{wideKm}
+use Rattle.bounds.specs.State.{wideKernel}
 use Rattle.bounds.proofs.Shaped.{same-wide-kernel}
-use Rattle.levels.specs.Work.{KernelAt, Serves, noShape}
+use Rattle.levels.specs.State.{KernelAt, Serves, noShape}
 
 -- ---- kernels of a row and a radius
 

@@ -9,8 +9,8 @@ use lib.Seq.{take-add, drop-drop, take-suc, getD-drop, length-take-le}
 use Rattle.lists.specs.Lists.{each}
 use Rattle.lists.proofs.Folds.{each-append, length-each}
 use Rattle.blocks.specs.declared.Block.{Block}
-use Rattle.blocks.specs.Word.{blockOf, blocksOf}
-use Rattle.levels.specs.Buffer.{blocksFrom}
+use Rattle.blocks.specs.State.{blockOf, blocksOf}
+use Rattle.levels.specs.State.{blocksFrom}
 
 module _ (words : List ℕ) where
   pub span-none : (start : ℕ) → blocksFrom start start words ≡ []

@@ -1,5 +1,5 @@
 -- A chunk on its way through its words, over plain values: the definition's work so far, its children written, and room for the next.
-use Prim.Native.Nat.{ℕ, _+_, _-_, _/_, _≤_, _<_}
+use Prim.Native.Nat.{ℕ, _+_, _/_, _≤_, _<_}
 use mathlib.Core.Path.{_≡_, refl, sym, ap, subst, _∙_}
 use mathlib.Core.Bool.{Bool, true, false, cond}
 use mathlib.Core.List.{List, [], _∷_, _++_, append-nil}
@@ -13,17 +13,17 @@ use Rattle.lists.proofs.Writes.{writing-start, writing-more, writing-done, writ
 use Rattle.grid.specs.declared.Grid.{Grid}
 use Rattle.grid.specs.Map.{Map}
 use Rattle.grid.proofs.Sizes.{grid-sizes}
-use Rattle.kernel.specs.Kernel.{Sheet, OnSheet}
+use Rattle.kernel.specs.Requires.{Sheet, OnSheet}
 use Rattle.blocks.specs.declared.Block.{Block}
 use Rattle.blocks.specs.Block.{area, split, Rectangle}
-use Rattle.blocks.specs.Word.{wordOf, blockOf, Written, CanSplit}
+use Rattle.blocks.specs.State.{wordOf, blockOf, Written}
+use Rattle.blocks.specs.Requires.{CanSplit}
 use Rattle.blocks.proofs.Tiles.{length-area, split-rectangle, split-settled}
 use Rattle.candidates.specs.declared.Held.{Held}
 use Rattle.levels.specs.Level.{Work, examine, started, chunk}
-use Rattle.levels.specs.Weight.{weight, statsWeight}
+use Rattle.levels.specs.State.{weight, statsWeight, summedMap, workOf, startedWork, blocksFrom, children, Swept}
 use Rattle.levels.specs.declared.ChunkWork.{ChunkWork}
-use Rattle.levels.specs.Work.{mapOf, Ready, workOf, CanCount, startedWork}
-use Rattle.levels.specs.Buffer.{blocksFrom, children, CanSweep, ChunkWords, Swept}
+use Rattle.levels.specs.Requires.{mostCells, Ready, CanCount, CanSweep, ChunkWords}
 use Rattle.levels.proofs.Rule.{fold-rule}
 use Rattle.levels.proofs.Counts.{ended, Counts, counts-kept, next-fits}
 use Rattle.levels.proofs.OneBlock.{block-small, can-count}
@@ -43,7 +43,7 @@ module _ (m : Map) (km : Float) (best : Held) where
     unfolding started concatEach
     sofar-room = next-fits (m .globe .grid) 0 (started m km best .outcome) (sofar bs .outcome) bs sofar-counts refl refl rs
 
-    pub sofar-light : total area bs ≤ 16200 → weight (sofar bs .outcome .tally) ≤ 100000
+    pub sofar-light : total area bs ≤ mostCells → weight (sofar bs .outcome .tally) ≤ 100000
     unfolding started weight statsWeight
     sofar-light h =
         let c = sofar-counts in
@@ -94,51 +94,51 @@ start-same m km best w e = ap (λ (x : ChunkWork). workOf x []) e
 
 -- ---- the loop
 
-module _ (g : Grid) (angles cosines : List Float) (sums : List ℕ) (near : List ℕ) (start end : ℕ) (km : Float) (best : Held) (far₀ : List ℕ) (live : ℕ) where
+module _ (g : Grid) (angles cosines : List Float) (sums : List ℕ) (current : List ℕ) (start end : ℕ) (km : Float) (best : Held) (following₀ : List ℕ) (live : ℕ) where
   abbrev m : Map
-  m = mapOf g angles cosines sums
+  m = summedMap g angles cosines sums
 
   abbrev upTo : ℕ → Work
-  upTo i = sofar m km best (blocksFrom start i near)
+  upTo i = sofar m km best (blocksFrom start i current)
 
-  pub record Sweeping (far : List ℕ) (w : ChunkWork) (at i : ℕ) : Type 0 where
+  pub record Sweeping (following : List ℕ) (w : ChunkWork) (at i : ℕ) : Type 0 where
     pub from : start ≤ i
     pub to : i ≤ end
-    pub size : length far ≡ length far₀
+    pub size : length following ≡ length following₀
     pub same : workOf w (upTo i .outcome .survivors) ≡ upTo i
-    pub written : Written far₀ live (each wordOf (children (upTo i .outcome))) far at
+    pub written : Written following₀ live (each wordOf (children (upTo i .outcome))) following at
 
-  module _ (t : Ready g angles cosines sums) (words : ChunkWords near start end) (can : CanSweep g (blocksFrom start end near) far₀ live) where
-    pub sweep-start : (w : ChunkWork) → w ≡ startedWork g km best → Sweeping far₀ w live start
+  module _ (t : Ready g angles cosines sums) (words : ChunkWords current start end) (can : CanSweep g (blocksFrom start end current) following₀ live) where
+    pub sweep-start : (w : ChunkWork) → w ≡ startedWork g km best → Sweeping following₀ w live start
     unfolding fold each concatEach started
     sweep-start w e =
-        let none-yet = sym (span-none near start) in
+        let none-yet = sym (span-none current start) in
         record {
           from = omega arith;
           to = words .order;
           size = refl;
           same = subst (λ (bs : List Block). workOf w (sofar m km best bs .outcome .survivors) ≡ sofar m km best bs) none-yet (start-same m km best w e);
-          written = subst (λ (bs : List Block). Written far₀ live (each wordOf (children (sofar m km best bs .outcome))) far₀ live) none-yet (written-nothing far₀ live);
+          written = subst (λ (bs : List Block). Written following₀ live (each wordOf (children (sofar m km best bs .outcome))) following₀ live) none-yet (written-nothing following₀ live);
         }
 
-    module _ (far : List ℕ) (w : ChunkWork) (at i : ℕ) (s : Sweeping far w at i) where
+    module _ (following : List ℕ) (w : ChunkWork) (at i : ℕ) (s : Sweeping following w at i) where
       module _ (h : i < end) where
         abbrev next : Block
-        next = blockOf (getD near i 0)
+        next = blockOf (getD current i 0)
 
         abbrev done : List Block
-        done = blocksFrom start i near
+        done = blocksFrom start i current
 
-        inside : i < length near
+        inside : i < length current
         inside = omega (arith, words .words)
 
-        parts : blocksFrom start end near ≡ done ++ (next ∷ []) ++ blocksFrom (i + 1) end near
+        parts : blocksFrom start end current ≡ done ++ (next ∷ []) ++ blocksFrom (i + 1) end current
         parts =
-            span-cut near start (i + 1) end (omega (arith, s .from)) (omega arith)
-            ∙ ap (λ (x : List Block). x ++ blocksFrom (i + 1) end near) (span-more near start i (s .from) inside)
+            span-cut current start (i + 1) end (omega (arith, s .from)) (omega arith)
+            ∙ ap (λ (x : List Block). x ++ blocksFrom (i + 1) end current) (span-more current start i (s .from) inside)
 
         all : AllOf (Rectangle g) (done ++ next ∷ [])
-        all = all-left (done ++ next ∷ []) (blocksFrom (i + 1) end near) (rw parts at (can .rectangles))
+        all = all-left (done ++ next ∷ []) (blocksFrom (i + 1) end current) (rw parts at (can .rectangles))
 
         done-all : AllOf (Rectangle g) done
         done-all = all-left done (next ∷ []) all
@@ -149,13 +149,13 @@ module _ (g : Grid) (angles cosines : List Float) (sums : List ℕ) (near : List
             only : {b : Block} → AllOf (Rectangle g) (b ∷ []) → Rectangle g b
             only (also r rs) = r
 
-        areas : total area done + area next ≤ total area (blocksFrom start end near)
+        areas : total area done + area next ≤ total area (blocksFrom start end current)
         unfolding total
         areas =
             omega (
               arith,
               ap (total area) parts,
-              total-append area (done ++ next ∷ []) (blocksFrom (i + 1) end near),
+              total-append area (done ++ next ∷ []) (blocksFrom (i + 1) end current),
               total-append area done (next ∷ []),
             )
 
@@ -165,7 +165,7 @@ module _ (g : Grid) (angles cosines : List Float) (sums : List ℕ) (near : List
             can-count g angles cosines sums t next next-rectangle w
             (rw e (omega (arith, sofar-light m km best done-all (omega (arith, areas, can .narrow)))))
 
-        children-fit : live + length (each wordOf (children (upTo i .outcome))) + length (split next) ≤ length far₀
+        children-fit : live + length (each wordOf (children (upTo i .outcome))) + length (split next) ≤ length following₀
         children-fit =
             omega (
               arith,
@@ -177,7 +177,7 @@ module _ (g : Grid) (angles cosines : List Float) (sums : List ℕ) (near : List
               can .room,
             )
 
-        pub sweep-room : CanSplit next far at
+        pub sweep-room : CanSplit next following at
         sweep-room =
             record {
               small = block-small g angles cosines sums t next next-rectangle;
@@ -185,15 +185,15 @@ module _ (g : Grid) (angles cosines : List Float) (sums : List ℕ) (near : List
             }
 
         module _ (w′ : ChunkWork) (survives : Bool)
-            (seen : (bs : List Block) → workOf w′ (cond survives (bs ++ next ∷ []) bs) ≡ examine m km (workOf w bs) next) (far′ : List ℕ) (at′ : ℕ)
-            (wrote : Written far at (each wordOf (cond survives (split next) [])) far′ at′) where
+            (seen : (bs : List Block) → workOf w′ (cond survives (bs ++ next ∷ []) bs) ≡ examine m km (workOf w bs) next) (following′ : List ℕ) (at′ : ℕ)
+            (wrote : Written following at (each wordOf (cond survives (split next) [])) following′ at′) where
           abbrev kept : List Block
           kept = cond survives (upTo i .outcome .survivors ++ next ∷ []) (upTo i .outcome .survivors)
 
           after : workOf w′ kept ≡ upTo (i + 1)
           after =
               seen (upTo i .outcome .survivors) ∙ ap (λ (x : Work). examine m km x next) (s .same)
-              ∙ sym (ap (sofar m km best) (span-more near start i (s .from) inside) ∙ sofar-more m km best done next)
+              ∙ sym (ap (sofar m km best) (span-more current start i (s .from) inside) ∙ sofar-more m km best done next)
 
           next-survivors : kept ≡ upTo (i + 1) .outcome .survivors
           next-survivors = ap (λ (x : Work). x .outcome .survivors) after
@@ -203,7 +203,7 @@ module _ (g : Grid) (angles cosines : List Float) (sums : List ℕ) (near : List
           few true = omega (arith, length-each wordOf (split next))
           few false = omega arith
 
-          pub sweep-next : Sweeping far′ w′ at′ (i + 1)
+          pub sweep-next : Sweeping following′ w′ at′ (i + 1)
           sweep-next =
               let old = each wordOf (children (upTo i .outcome)) in
               let new = each wordOf (cond survives (split next) []) in
@@ -213,14 +213,14 @@ module _ (g : Grid) (angles cosines : List Float) (sums : List ℕ) (near : List
               record {
                 from = omega (arith, s .from);
                 to = omega arith;
-                size = written-size far far′ at at′ new (omega (arith, sweep-room .room, few survives)) wrote ∙ s .size;
+                size = written-size following following′ at at′ new (omega (arith, sweep-room .room, few survives)) wrote ∙ s .size;
                 same = subst (λ (x : List Block). workOf w′ x ≡ upTo (i + 1)) next-survivors after;
                 written =
-                    subst (λ (x : List ℕ). Written far₀ live x far′ at′) all-words
-                    (written-then far₀ far far′ live at at′ old new (omega (arith, children-fit, few survives)) (s .written) wrote);
+                    subst (λ (x : List ℕ). Written following₀ live x following′ at′) all-words
+                    (written-then following₀ following following′ live at at′ old new (omega (arith, children-fit, few survives)) (s .written) wrote);
               }
 
-      pub sweep-done : end ≤ i → Swept (chunk m km best (blocksFrom start end near)) far₀ live far (record { held = w .held; tally = w .tally; live = at })
+      pub sweep-done : end ≤ i → Swept (chunk m km best (blocksFrom start end current)) following₀ live following (record { held = w .held; tally = w .tally; live = at })
       unfolding chunk
       sweep-done h =
           let e : i ≡ end = omega (arith, s .to) in

@@ -1,6 +1,6 @@
 -- One level of the search: its blocks by probe, cut into chunks as for four workers, each pruned or evaluated.
 use Prim.Native.Nat.{ℕ, _+_, _/_, min}
-use mathlib.Core.Bool.{Bool, cond, not, _&&_}
+use mathlib.Core.Bool.{cond, not, _&&_}
 use mathlib.Core.List.{List, [], _∷_, _++_}
 use lib.ListN.{length}
 use lib.Ieee.{Float, eq}
@@ -21,19 +21,23 @@ use Rattle.candidates.specs.Candidate.{candidate, betterHeld, prunes}
 
 -- ---- the counts
 
+-- the counts of the original: levels, blocks examined and pruned, circles evaluated, kernels built
 abbrev pub stats : ℕ → ℕ → ℕ → ℕ → ℕ → SearchStats
 stats levels examined pruned evaluated kernels =
     record { levels = levels; «blocks_examined» = examined; «blocks_pruned» = pruned; «circles_evaluated» = evaluated; «kernels_built» = kernels }
 
+-- the same with the cells of pruned blocks and of single-cell blocks evaluated
 abbrev pub tally : SearchStats → ℕ → ℕ → Tally
 tally s pruned settled = record { stats = s; «cells_pruned» = pruned; «cells_settled» = settled }
 
+-- nothing counted
 unfoldable pub noStats : SearchStats
 noStats = stats 0 0 0 0 0
 
 unfoldable pub noTally : Tally
 noTally = tally noStats 0 0
 
+-- count by count
 unfoldable pub plusStats : SearchStats → SearchStats → SearchStats
 plusStats s t =
     stats (s .levels + t .levels) (s .«blocks_examined» + t .«blocks_examined») (s .«blocks_pruned» + t .«blocks_pruned»)
@@ -61,10 +65,11 @@ pub record Work : Type 0 where
 unfoldable pub wideBuilt : Work → Block → Float → ℕ
 wideBuilt w b wide = one (not (eqb (w .wideRow .0) (probe b .row .0) && eq (w .wideRadius) wide))
 
+-- the exact kernels of a chunk have the plain radius, so that its row decides
 unfoldable pub exactBuilt : Work → Block → ℕ
 exactBuilt w b = one (not (eqb (w .exactRow .0) (probe b .row .0)))
 
--- a pruned block asks for no exact kernel
+-- a pruned block asks for no exact kernel, and leaves what is held
 unfoldable pub pruned : Work → Block → Float → Work
 pruned w b wide =
     let o = w .outcome in
@@ -94,6 +99,7 @@ evaluated m km w b wide =
       exactRow = probe b .row;
     }
 
+-- one block: its bound against what the chunk holds
 unfoldable pub examine : Map → Float → Work → Block → Work
 examine m km w b =
     let wide = wideKm (m .globe) km b in
@@ -110,26 +116,32 @@ started m km best =
       exactRow = middleRow;
     }
 
+-- the blocks of a chunk in turn
 unfoldable pub chunk : Map → Float → Held → List Block → Outcome
 chunk m km best bs = fold (examine m km) (started m km best) bs .outcome
 
 -- ---- a level
 
--- as for four workers
+-- as for four workers: of as many blocks each, the last one of fewer
 unfoldable pub chunks : List Block → List (List Block)
 chunks bs = pieces 4 (divCeil (length bs) (max 1 (min 4 (length bs)))) bs
 
+-- two outcomes joined, the second after the first
 unfoldable pub joined : Outcome → Outcome → Outcome
 joined o p =
     record { held = betterHeld (o .held) (p .held); survivors = o .survivors ++ p .survivors; tally = plus (o .tally) (p .tally) }
 
--- the chunks' outcomes, joined in order
-unfoldable pub level : Map → Float → Held → List Block → Outcome
-level m km best bs =
+-- the outcomes of the chunks of blocks that are in order, joined in order
+unfoldable pub levelInOrder : Map → Float → Held → List Block → Outcome
+levelInOrder m km best sorted =
     let begun : Outcome = record { held = best; survivors = []; tally = tally (stats 1 0 0 0 0) 0 0 } in
-    fold joined begun (each (chunk m km best) (chunks (sort byProbe bs)))
+    fold joined begun (each (chunk m km best) (chunks sorted))
+
+-- a level: its blocks by probe
+unfoldable pub level : Map → Float → Held → List Block → Outcome
+level m km best bs = levelInOrder m km best (sort byProbe bs)
 
 -- opens all of the above, for facts that are computed
-unfoldable pub leveling : Unit {0}
-unfolding noStats noTally plusStats plus wideBuilt exactBuilt pruned evaluated examine started chunk chunks joined level
-leveling = tt
+unfoldable pub open-levels : Unit {0}
+unfolding noStats noTally plusStats plus wideBuilt exactBuilt pruned evaluated examine started chunk chunks joined levelInOrder level
+open-levels = tt

@@ -1,4 +1,3 @@
 pub mod Level
-pub mod Weight
-pub mod Work
-pub mod Buffer
+pub mod State
+pub mod Requires

@@ -9,13 +9,13 @@ ghost use mathlib.Core.Path.{_≡_};
 ghost use Prim.Native.Nat.{_+_, _≤_, _^_, min};
 ghost use lib.ListN.{length};
 ghost use Rattle.lists.specs.Counted.{max, divCeil};
-ghost use Rattle.blocks.specs.Word.{blocksOf};
-ghost use Rattle.levels.specs.Level.{stats, tally};
-ghost use Rattle.levels.specs.Weight.{weight};
-ghost use Rattle.levels.specs.Work.{mapOf, Ready};
-ghost use Rattle.levels.specs.Buffer.{levelOf, joinedResults, CanSweep, Swept};
+ghost use Rattle.blocks.specs.State.{blocksOf};
+ghost use Rattle.levels.specs.Level.{stats, tally, levelInOrder};
+ghost use Rattle.levels.specs.State.{weight, summedMap, joinedResults, Swept};
+ghost use Rattle.levels.specs.Requires.{Ready, CanSweep};
 
-// Four, or as many as there are blocks, and at least one.
+// Four, or as many as there are blocks, and at least one. The counts hang on where a level is cut, and the original cuts it for four
+// threads whatever the machine has: so do we, though one thread goes through the chunks in turn.
 fn workers(n: usize) -> usize
     ensures { λ r. ⌜ r ≡ max 1 (min 4 n) ⌝ }
 {
@@ -25,7 +25,7 @@ fn workers(n: usize) -> usize
     if n < 4 { n } else { 4 }
 }
 
-// How many blocks a worker has: the last one may have fewer.
+// How many blocks a worker has: the last worker may have fewer.
 fn chunk_size(n: usize) -> usize
     requires { ⌜ n ≤ 2 ^ 32 ⌝ }
     ensures { λ r. ⌜ r ≡ divCeil n (max 1 (min 4 n)) ⌝ }
@@ -34,6 +34,7 @@ fn chunk_size(n: usize) -> usize
     (n + (w - 1)) / w
 }
 
+// The place after a chunk: the last one may be short.
 fn chunk_end(start: usize, size: usize, n: usize) -> usize
     requires { ⌜ start ≤ n ⌝ }
     ensures { λ r. ⌜ r ≡ min (start + size) n ⌝ }
@@ -45,18 +46,8 @@ fn chunk_end(start: usize, size: usize, n: usize) -> usize
 fn begun(best: Held) -> ChunkResult
     ensures { λ r. ⌜ r ≡ record { held = best; tally = tally (stats 1 0 0 0 0) 0 0; live = 0 } ⌝ }
 {
-    let stats = SearchStats {
-        levels: 1,
-        blocks_examined: 0,
-        blocks_pruned: 0,
-        circles_evaluated: 0,
-        kernels_built: 0,
-    };
-    let tally = Tally {
-        stats,
-        cells_pruned: 0,
-        cells_settled: 0,
-    };
+    let stats = SearchStats::of(1, 0, 0, 0, 0);
+    let tally = Tally::of(stats, 0, 0);
     ChunkResult {
         held: best,
         tally,
@@ -64,6 +55,7 @@ fn begun(best: Held) -> ChunkResult
     }
 }
 
+// The better of what two hold, their counts added, and the place after the second's children.
 fn joined(a: ChunkResult, b: ChunkResult) -> ChunkResult
     requires { ⌜ weight (a .tally) + weight (b .tally) ≤ 2 ^ 31 ⌝ }
     ensures { λ r. ⌜ r ≡ joinedResults a b ⌝ }
@@ -81,22 +73,26 @@ fn joined(a: ChunkResult, b: ChunkResult) -> ChunkResult
     }
 }
 
-// Each chunk starts from the best of the level before, never from the chunk before it.
+// A level's blocks, in probe order at the front of current, chunk by chunk; their children are left at the front of following. Each chunk
+// starts from the best of the level before, never from that of the chunk before it: chunks that run side by side do not know of each
+// other, and a better circle from there would prune blocks that the original evaluates.
 pub fn level(
     grid: Grid,
     angles: &[f64],
     cosines: &[f64],
     sums: &[u64],
-    near: &[u64],
+    current: &[u64],
     n: usize,
     km: f64,
     best: Held,
-    far: &mut [u64],
+    following: &mut [u64],
 ) -> ChunkResult
     requires { ⌜ Ready grid (now angles) (now cosines) (now sums) ⌝ }
-    requires { ⌜ n ≤ length (now near) ⌝ }
-    requires { ⌜ CanSweep grid (blocksOf n (now near)) (now far) 0 ⌝ }
-    ensures { λ r. ⌜ Swept (levelOf (mapOf grid (now (angles .entry)) (now (cosines .entry)) (now (sums .entry))) km best (blocksOf n (now (near .entry)))) (now (far .entry)) 0 (now (far .exit)) r ⌝ }
+    requires { ⌜ n ≤ length (now current) ⌝ }
+    requires { ⌜ CanSweep grid (blocksOf n (now current)) (now following) 0 ⌝ }
+    ensures { λ r. ⌜ Swept
+        (levelInOrder (summedMap grid (now (angles .entry)) (now (cosines .entry)) (now (sums .entry))) km best (blocksOf n (now (current .entry))))
+        (now (following .entry)) 0 (now (following .exit)) r ⌝ }
 {
     let size = chunk_size(n);
     let mut done = begun(best);
@@ -109,12 +105,12 @@ pub fn level(
             angles,
             cosines,
             sums,
-            near,
+            current,
             start,
             end,
             km,
             best,
-            far,
+            following,
             live,
         );
         done = joined(done, part);

@@ -7,20 +7,23 @@ ghost use mathlib.Core.Bool.{not, _&&_};
 ghost use lib.Ieee.{eq};
 ghost use lib.Dec.{eqb};
 ghost use Rattle.lists.specs.Counted.{one};
-ghost use Rattle.levels.specs.Work.{noShape};
+ghost use Rattle.levels.specs.State.{noShape};
 
+// Whether two rows are the same.
 pub(crate) fn same_row(row: Row, next: Row) -> bool
     ensures { λ r. ⌜ r ≡ eqb (row .0) (next .0) ⌝ }
 {
     row.0 == next.0
 }
 
+// Whether two radii are the same.
 pub(crate) fn same_radius(km: f64, next: f64) -> bool
     ensures { λ r. ⌜ r ≡ eq km next ⌝ }
 {
     km == next
 }
 
+// Whether a kernel of this row and radius is the one wanted next.
 pub(crate) fn same_kernel(row: Row, km: f64, next: Row, wanted: f64) -> bool
     ensures { λ r. ⌜ r ≡ (eqb (row .0) (next .0) && eq km wanted) ⌝ }
 {

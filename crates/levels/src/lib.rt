@@ -11,6 +11,7 @@ use candidates::Held;
 pub use cut::level;
 use grid::Row;
 
+// The counts of the original.
 pub struct SearchStats {
     pub levels: u32,
     pub blocks_examined: u64,

@@ -15,28 +15,19 @@ ghost use mathlib.Core.Bool.{cond};
 ghost use mathlib.Core.List.{[]};
 ghost use Rattle.lists.specs.Lists.{each};
 ghost use Rattle.blocks.specs.Block.{split};
-ghost use Rattle.blocks.specs.Word.{wordOf, Written, CanSplit};
+ghost use Rattle.blocks.specs.State.{wordOf, Written};
+ghost use Rattle.blocks.specs.Requires.{CanSplit};
 ghost use Rattle.levels.specs.Level.{chunk};
-ghost use Rattle.levels.specs.Work.{mapOf, Ready, startedWork};
-ghost use Rattle.levels.specs.Buffer.{blocksFrom, CanSweep, ChunkWords, Swept};
+ghost use Rattle.levels.specs.State.{summedMap, startedWork, blocksFrom, Swept};
+ghost use Rattle.levels.specs.Requires.{Ready, CanSweep, ChunkWords};
 
 // A chunk starts from the best of the level before and from two kernels at the middle row and the plain radius, which count as built.
 fn started(grid: Grid, km: f64, best: Held) -> ChunkWork
     ensures { λ r. ⌜ r ≡ startedWork grid km best ⌝ }
 {
     let middle = Row(grid.height / 2);
-    let stats = SearchStats {
-        levels: 0,
-        blocks_examined: 0,
-        blocks_pruned: 0,
-        circles_evaluated: 0,
-        kernels_built: 2,
-    };
-    let tally = Tally {
-        stats,
-        cells_pruned: 0,
-        cells_settled: 0,
-    };
+    let stats = SearchStats::of(0, 0, 0, 0, 2);
+    let tally = Tally::of(stats, 0, 0);
     ChunkWork {
         held: best,
         tally,
@@ -47,16 +38,17 @@ fn started(grid: Grid, km: f64, best: Held) -> ChunkWork
 }
 
 // A survivor's children, from place at on; the place after them.
-fn write_children(survives: bool, block: Block, far: &mut [u64], at: usize) -> usize
-    requires { ⌜ CanSplit block (now far) at ⌝ }
-    ensures { λ r. ⌜ Written (now (far .entry)) at (each wordOf (cond survives (split block) [])) (now (far .exit)) r ⌝ }
+fn write_children(survives: bool, block: Block, following: &mut [u64], at: usize) -> usize
+    requires { ⌜ CanSplit block (now following) at ⌝ }
+    ensures { λ r. ⌜ Written (now (following .entry)) at (each wordOf (cond survives (split block) [])) (now (following .exit)) r ⌝ }
 {
     if survives {
-        return blocks::split(block, far, at);
+        return blocks::split(block, following, at);
     }
     at
 }
 
+// What a chunk came to, once its blocks are examined.
 fn result_of(work: ChunkWork, live: usize) -> ChunkResult
     ensures { λ r. ⌜ r ≡ record { held = work .held; tally = work .tally; live = live } ⌝ }
 {
@@ -65,25 +57,28 @@ fn result_of(work: ChunkWork, live: usize) -> ChunkResult
     ChunkResult { held, tally, live }
 }
 
-// Three kernels stay in place from block to block, two wide ones and an exact one, and are built anew only where a block needs another: a
-// wide one where the block has another shape, the exact one where its probe stands on another row.
+// The blocks of the words from start up to end, examined in turn. Three kernels stay in place from block to block, two wide ones and an
+// exact one, and are built anew only where a block needs another: a wide one where the block has another shape, the exact one where its
+// probe stands on another row.
 pub(crate) fn chunk(
     grid: Grid,
     angles: &[f64],
     cosines: &[f64],
     sums: &[u64],
-    near: &[u64],
+    current: &[u64],
     start: usize,
     end: usize,
     km: f64,
     best: Held,
-    far: &mut [u64],
+    following: &mut [u64],
     live: usize,
 ) -> ChunkResult
     requires { ⌜ Ready grid (now angles) (now cosines) (now sums) ⌝ }
-    requires { ⌜ ChunkWords (now near) start end ⌝ }
-    requires { ⌜ CanSweep grid (blocksFrom start end (now near)) (now far) live ⌝ }
-    ensures { λ r. ⌜ Swept (chunk (mapOf grid (now (angles .entry)) (now (cosines .entry)) (now (sums .entry))) km best (blocksFrom start end (now (near .entry)))) (now (far .entry)) live (now (far .exit)) r ⌝ }
+    requires { ⌜ ChunkWords (now current) start end ⌝ }
+    requires { ⌜ CanSweep grid (blocksFrom start end (now current)) (now following) live ⌝ }
+    ensures { λ r. ⌜ Swept
+        (chunk (summedMap grid (now (angles .entry)) (now (cosines .entry)) (now (sums .entry))) km best (blocksFrom start end (now (current .entry))))
+        (now (following .entry)) live (now (following .exit)) r ⌝ }
 {
     let mut exact = kernel::build(grid, angles, Row(grid.height / 2), km);
     let mut one = exact;
@@ -94,7 +89,7 @@ pub(crate) fn chunk(
     let mut at = live;
     let mut i = start;
     while i < end {
-        let block = blocks::from_word(near[i]);
+        let block = blocks::from_word(current[i]);
         let p = blocks::probe(block);
         let mut wide = km;
         let mut bound: u64 = 0;
@@ -114,12 +109,12 @@ pub(crate) fn chunk(
             bound = circle_population(grid, sums, two.north, two.end, &two.reach, &two.run, p.col);
         }
         let survives = work::survives(work, bound);
-        let mut people = bound;
+        let mut population = bound;
         if work::asks(survives, wide, km) {
             if !kept::same_row(exact.row, p.row) {
                 exact = kernel::build(grid, angles, p.row, km);
             }
-            people = circle_population(
+            population = circle_population(
                 grid,
                 sums,
                 exact.north,
@@ -129,8 +124,8 @@ pub(crate) fn chunk(
                 p.col,
             );
         }
-        work = work::examined(work, block, wide, survives, people);
-        at = write_children(survives, block, far, at);
+        work = work::examined(work, block, wide, survives, population);
+        at = write_children(survives, block, following, at);
         i += 1;
     }
     result_of(work, at)

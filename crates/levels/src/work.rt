@@ -14,7 +14,8 @@ ghost use Rattle.lists.specs.Counted.{one};
 ghost use Rattle.blocks.specs.Block.{isCell};
 ghost use Rattle.candidates.specs.Candidate.{prunes};
 ghost use Rattle.levels.specs.Level.{wideBuilt, exactBuilt};
-ghost use Rattle.levels.specs.Work.{workOf, CanCount, prunedWork, evaluatedWork};
+ghost use Rattle.levels.specs.State.{workOf, prunedWork, evaluatedWork};
+ghost use Rattle.levels.specs.Requires.{CanCount};
 
 // A single cell that is evaluated is settled.
 fn settled(block: Block) -> u64
@@ -39,26 +40,16 @@ fn exact_built(work: ChunkWork, block: Block) -> u64
     kept::built(kept::same_row(work.exact_row, row))
 }
 
-// A pruned block asks for no exact kernel.
+// A pruned block asks for no exact kernel: the population of its probe's circle is at most its bound, which is below that of the circle
+// held.
 fn pruned(work: ChunkWork, block: Block, wide: f64) -> ChunkWork
     requires { ⌜ CanCount work block ⌝ }
     ensures { λ r. ⌜ r ≡ prunedWork work block wide ⌝ }
 {
     let held = work.held;
     let counted = work.tally;
-    let stats = SearchStats {
-        levels: 0,
-        blocks_examined: 1,
-        blocks_pruned: 1,
-        circles_evaluated: 0,
-        kernels_built: wide_built(work, block, wide),
-    };
-    let area = blocks::area(block);
-    let more = Tally {
-        stats,
-        cells_pruned: area,
-        cells_settled: 0,
-    };
+    let stats = SearchStats::of(0, 1, 1, 0, wide_built(work, block, wide));
+    let more = Tally::of(stats, blocks::area(block), 0);
     let tally = crate::plus(counted, more);
     let wide_row = blocks::probe(block).row;
     let exact_row = work.exact_row;
@@ -71,7 +62,7 @@ fn pruned(work: ChunkWork, block: Block, wide: f64) -> ChunkWork
     }
 }
 
-// Otherwise its probe, with the people of its circle, is the best so far or not.
+// Otherwise its probe, with the population of its circle, is the best so far or not.
 fn evaluated(work: ChunkWork, block: Block, wide: f64, population: u64) -> ChunkWork
     requires { ⌜ CanCount work block ⌝ }
     ensures { λ r. ⌜ r ≡ evaluatedWork work block wide population ⌝ }
@@ -80,28 +71,10 @@ fn evaluated(work: ChunkWork, block: Block, wide: f64, population: u64) -> Chunk
     let counted = work.tally;
     let probe = blocks::probe(block);
     let row = probe.row;
-    let col = probe.col;
-    let held = candidates::better_held(
-        before,
-        Held::Best(Candidate {
-            row,
-            col,
-            population,
-        }),
-    );
-    let stats = SearchStats {
-        levels: 0,
-        blocks_examined: 1,
-        blocks_pruned: 0,
-        circles_evaluated: 1,
-        kernels_built: wide_built(work, block, wide) + exact_built(work, block),
-    };
-    let cells = settled(block);
-    let more = Tally {
-        stats,
-        cells_pruned: 0,
-        cells_settled: cells,
-    };
+    let held = candidates::better_held(before, Held::Best(Candidate::at(probe, population)));
+    let kernels = wide_built(work, block, wide) + exact_built(work, block);
+    let stats = SearchStats::of(0, 1, 0, 1, kernels);
+    let more = Tally::of(stats, 0, settled(block));
     let tally = crate::plus(counted, more);
     ChunkWork {
         held,
@@ -112,19 +85,19 @@ fn evaluated(work: ChunkWork, block: Block, wide: f64, population: u64) -> Chunk
     }
 }
 
-// A chunk after a block of this wide radius: a survivor's probe has these people.
+// A chunk after a block of this wide radius: a survivor's probe has this population.
 pub(crate) fn examined(
     work: ChunkWork,
     block: Block,
     wide: f64,
     survives: bool,
-    people: u64,
+    population: u64,
 ) -> ChunkWork
     requires { ⌜ CanCount work block ⌝ }
-    ensures { λ r. ⌜ r ≡ cond survives (evaluatedWork work block wide people) (prunedWork work block wide) ⌝ }
+    ensures { λ r. ⌜ r ≡ cond survives (evaluatedWork work block wide population) (prunedWork work block wide) ⌝ }
 {
     if survives {
-        return evaluated(work, block, wide, people);
+        return evaluated(work, block, wide, population);
     }
     pruned(work, block, wide)
 }
@@ -141,7 +114,7 @@ pub(crate) fn survives(work: ChunkWork, bound: u64) -> bool
     }
 }
 
-// A survivor asks for the people of its probe's circle, but where the wide circle has the plain radius, as that of a single cell has.
+// A survivor asks for the population of its probe's circle, but where the wide circle has the plain radius, as that of a single cell has.
 pub(crate) fn asks(survives: bool, wide: f64, km: f64) -> bool
     ensures { λ r. ⌜ r ≡ (survives && not (eq wide km)) ⌝ }
 {

@@ -1,12 +1,11 @@
 -- A property of every element, and of some element, of a list; and a sum over its elements.
-use Prim.Native.Nat.{ℕ, zero, suc, _+_, _≤_, _<_}
-use mathlib.Core.Path.{_≡_, refl, ap, _∙_}
+use Prim.Native.Nat.{ℕ, zero, suc, _+_, _<_}
+use mathlib.Core.Path.{_≡_, refl}
 use mathlib.Core.Logic.{_⊎_, inl, inr}
 use mathlib.Core.List.{List, [], _∷_, _++_}
 use native.Mathlib.Omega.{arith}
-use native.Mathlib.Nat.{add-assoc}
 use lib.ListN.{length, take, drop, getD, take-append-drop}
-use Rattle.lists.specs.Lists.{fold, each, concatEach}
+use Rattle.lists.specs.Lists.{each, concatEach}
 
 module _ {A : Type 0} where
   pub data AllOf (P : A → Type 0) : List A → Type 0 where
@@ -66,11 +65,6 @@ module _ {A : Type 0} where
   any-map f (here {x = x} p) = here (f x p)
   any-map f (there a) = there (any-map f a)
 
-  -- what some element has, where each has another property
-  pub any-all : {P Q R : A → Type 0} {xs : List A} → ((x : A) → P x → Q x → R x) → AnyOf P xs → AllOf Q xs → AnyOf R xs
-  any-all f (here {x = x} p) (also q b) = here (f x p q)
-  any-all f (there a) (also q b) = there (any-all f a b)
-
   pub any-left : {P : A → Type 0} {xs : List A} (ys : List A) → AnyOf P xs → AnyOf P (xs ++ ys)
   any-left ys (here p) = here p
   any-left ys (there a) = there (any-left ys a)
@@ -88,10 +82,6 @@ module _ {A : Type 0} where
       deeper (inl b) = inl (there b)
       deeper (inr b) = inr b
 
-  -- in the first n or in the rest
-  pub any-cut : {P : A → Type 0} (n : ℕ) (xs : List A) → AnyOf P xs → AnyOf P (take n xs) ⊎ AnyOf P (drop n xs)
-  any-cut {P} n xs a = any-append (take n xs) (rw (take-append-drop n xs) a)
-
   -- ---- a sum over the elements
 
   pub total-append : (f : A → ℕ) (xs ys : List A) → total f (xs ++ ys) ≡ total f xs + total f ys
@@ -104,34 +94,11 @@ module _ {A : Type 0} where
   total-length [] = refl
   total-length (x ∷ xs) = omega (arith, total-length xs)
 
-  pub total-le : (f g : A → ℕ) {xs : List A} → AllOf (λ x. f x ≤ g x) xs → total f xs ≤ total g xs
-  unfolding total
-  total-le f g none = omega arith
-  total-le f g (also {xs = xs} p a) = omega (arith, total-le f g a)
-
-  -- the loop that adds
-  pub total-fold : (f : A → ℕ) (s : ℕ) (xs : List A) → fold (λ n x. n + f x) s xs ≡ s + total f xs
-  unfolding fold total
-  total-fold f s [] = omega arith
-  total-fold f s (x ∷ xs) = total-fold f (s + f x) xs ∙ add-assoc s (f x) (total f xs)
-
-  -- what each step keeps, a fold keeps
-  pub fold-keeps : {S : Type 0} {Q : A → Type 0} (P : S → Type 0) (f : S → A → S) → ((s : S) (x : A) → P s → Q x → P (f s x))
-      → (s : S) {xs : List A} → P s → AllOf Q xs → P (fold f s xs)
-  unfolding fold
-  fold-keeps P f k s p none = p
-  fold-keeps P f k s p (also {x = x} q a) = fold-keeps P f k (f s x) (k s x p q) a
-
 module _ {A B : Type 0} {P : B → Type 0} {Q : A → Type 0} where
   pub all-each : (f : A → B) → ((x : A) → Q x → P (f x)) → {xs : List A} → AllOf Q xs → AllOf P (each f xs)
   unfolding each
   all-each f g none = none
   all-each f g (also {x = x} q a) = also (g x q) (all-each f g a)
-
-  pub any-each : (f : A → B) → ((x : A) → Q x → P (f x)) → {xs : List A} → AnyOf Q xs → AnyOf P (each f xs)
-  unfolding each
-  any-each f g (here {x = x} q) = here (g x q)
-  any-each f g (there a) = there (any-each f g a)
 
   pub any-of-each : (f : A → B) → ((x : A) → P (f x) → Q x) → (xs : List A) → AnyOf P (each f xs) → AnyOf Q xs
   unfolding each
@@ -142,19 +109,3 @@ module _ {A B : Type 0} {P : B → Type 0} {Q : A → Type 0} where
   unfolding concatEach
   all-concat f g none = none
   all-concat f g (also {x = x} q a) = all-append (g x q) (all-concat f g a)
-
-  pub any-concat : (f : A → List B) → ((x : A) → Q x → AnyOf P (f x)) → (xs : List A) → AnyOf Q xs → AnyOf P (concatEach f xs)
-  unfolding concatEach
-  any-concat f g (x ∷ xs) (here q) = any-left (concatEach f xs) (g x q)
-  any-concat f g (x ∷ xs) (there a) = any-right (f x) (any-concat f g xs a)
-
-module _ {A B : Type 0} (f : B → ℕ) where
-  pub total-each : (g : A → B) (xs : List A) → total f (each g xs) ≡ total (λ x. f (g x)) xs
-  unfolding total each
-  total-each g [] = refl
-  total-each g (x ∷ xs) = ap (λ (n : ℕ). f (g x) + n) (total-each g xs)
-
-  pub total-concat : (g : A → List B) (xs : List A) → total f (concatEach g xs) ≡ total (λ x. total f (g x)) xs
-  unfolding total concatEach
-  total-concat g [] = refl
-  total-concat g (x ∷ xs) = total-append f (g x) (concatEach g xs) ∙ ap (λ (n : ℕ). total f (g x) + n) (total-concat g xs)

@@ -1,7 +1,7 @@
 -- A fold from the left, the form of a loop that carries a state over a slice; and a function applied to each element.
 use mathlib.Core.Path.{_≡_, refl, sym, ap, _∙_}
 use mathlib.Core.List.{List, [], _∷_, _++_, append-assoc, append-nil}
-use Prim.Native.Nat.{ℕ, zero, suc, _+_, _<_}
+use Prim.Native.Nat.{ℕ, suc, _+_, _<_}
 use native.Mathlib.Numerals.{add-one}
 use lib.ListN.{length, take, drop, getD}
 use lib.Seq.{take-suc, take-add}
@@ -31,12 +31,6 @@ module _ {A B : Type 0} (f : A → B) where
   unfolding each
   each-append [] ys = refl
   each-append (x ∷ xs) ys = ap {B = List B} (λ l. f x ∷ l) (each-append xs ys)
-
-  pub each-at : (xs : List A) (i : ℕ) (d : A) → getD (each f xs) i (f d) ≡ f (getD xs i d)
-  unfolding each
-  each-at [] i d = refl
-  each-at (x ∷ xs) zero d = refl
-  each-at (x ∷ xs) (suc i) d = each-at xs i d
 
 module _ {A B : Type 0} (f : A → List B) where
   pub concat-append : (xs ys : List A) → concatEach f (xs ++ ys) ≡ concatEach f xs ++ concatEach f ys

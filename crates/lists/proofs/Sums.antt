@@ -63,16 +63,6 @@ sum-bound n f b h = rw (← sum-constant n b) (sum-le n f (λ i. b) h)
 pub sum-grows : (m n : ℕ) (f : ℕ → ℕ) → m ≤ n → sumBelow m f ≤ sumBelow n f
 sum-grows m n f h = omega (arith, sum-split m n f h)
 
--- by rows or by columns
-pub sum-exchange : (m n : ℕ) (f : ℕ → ℕ → ℕ) → sumBelow m (λ i. sumBelow n (f i)) ≡ sumBelow n (λ j. sumBelow m (λ i. f i j))
-sum-exchange zero n f = sum-none (λ i. sumBelow n (f i)) ∙ sym (sum-zeros n (λ j. sumBelow 0 (λ i. f i j)) (λ j h. sum-none (λ i. f i j)))
-sum-exchange (suc m) n f =
-    let rows : sumBelow (suc m) (λ i. sumBelow n (f i)) ≡ sumBelow m (λ i. sumBelow n (f i)) + sumBelow n (f m) = sum-suc m (λ i. sumBelow n (f i)) in
-    let columns : sumBelow n (λ j. sumBelow (suc m) (λ i. f i j)) ≡ sumBelow n (λ j. sumBelow m (λ i. f i j) + f m j) =
-    sum-ext n (λ j. sumBelow (suc m) (λ i. f i j)) (λ j. sumBelow m (λ i. f i j) + f m j) (λ j h. sum-suc m (λ i. f i j)) in
-    let both = sum-both n (λ j. sumBelow m (λ i. f i j)) (f m) in
-    rows ∙ ap (λ (k : ℕ). k + sumBelow n (f m)) (sum-exchange m n f) ∙ sym both ∙ sym columns
-
 -- ---- over a range
 
 -- f a + .. + f (b - 1)

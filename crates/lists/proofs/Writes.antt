@@ -7,26 +7,26 @@ use native.Mathlib.Nat.{add-zero}
 use native.Mathlib.Numerals.{add-one}
 use lib.ListN.{length, take, drop, set, length-append, length-drop, take-append-drop}
 use lib.Seq.{length-take-le, take-at, drop-at, drop-drop, append-snoc, set-split}
-use Rattle.lists.specs.Front.{written}
+use Rattle.lists.specs.Front.{writtenAt}
 
 module _ {A : Type 0} where
-  pub length-written : (at : ℕ) (xs l : List A) → at + length xs ≤ length l → length (written at xs l) ≡ length l
+  pub length-written : (at : ℕ) (xs l : List A) → at + length xs ≤ length l → length (writtenAt at xs l) ≡ length l
   length-written at xs l h =
       simp (length-append, length-drop) (omega (arith, length-take-le at l (omega arith)))
 
-  pub written-none : (at : ℕ) (l : List A) → written at [] l ≡ l
+  pub written-none : (at : ℕ) (l : List A) → writtenAt at [] l ≡ l
   written-none at l = rw (add-zero at, append-nil (take at l)) (take-append-drop at l)
 
   -- one store
-  pub set-written : (at : ℕ) (v : A) (l : List A) → at < length l → set l at v ≡ written at (v ∷ []) l
+  pub set-written : (at : ℕ) (v : A) (l : List A) → at < length l → set l at v ≡ writtenAt at (v ∷ []) l
   set-written at v l h = rw (add-one at) (set-split l at v h ∙ sym (append-snoc (take at l) v (drop (suc at) l)))
 
   -- the front of what was written
-  pub take-written : (at : ℕ) (xs l : List A) → at ≤ length l → take (at + length xs) (written at xs l) ≡ take at l ++ xs
+  pub take-written : (at : ℕ) (xs l : List A) → at ≤ length l → take (at + length xs) (writtenAt at xs l) ≡ take at l ++ xs
   take-written at xs l h =
       take-at (take at l ++ xs) (drop (at + length xs) l) (at + length xs) (length-append (take at l) xs ∙ ap (λ (n : ℕ). n + length xs) (length-take-le at l h))
 
-  pub drop-written : (at : ℕ) (xs l : List A) → at ≤ length l → drop (at + length xs) (written at xs l) ≡ drop (at + length xs) l
+  pub drop-written : (at : ℕ) (xs l : List A) → at ≤ length l → drop (at + length xs) (writtenAt at xs l) ≡ drop (at + length xs) l
   drop-written at xs l h =
       drop-at (take at l ++ xs) (drop (at + length xs) l) (at + length xs) (length-append (take at l) xs ∙ ap (λ (n : ℕ). n + length xs) (length-take-le at l h))
 
@@ -43,7 +43,7 @@ module _ {A : Type 0} where
 
   module _ {l₀ : List A} {at₀ : ℕ} {whole l : List A} {at : ℕ} {left : List A} (w : Writing l₀ at₀ whole l at left) where
     -- a list more
-    pub writing-more : (ys left' l' : List A) → left ≡ ys ++ left' → l' ≡ written at ys l → Writing l₀ at₀ whole l' (at + length ys) left'
+    pub writing-more : (ys left' l' : List A) → left ≡ ys ++ left' → l' ≡ writtenAt at ys l → Writing l₀ at₀ whole l' (at + length ys) left'
     writing-more ys left' l' e k =
         let n : length left ≡ length ys + length left' = ap (length {A = A}) e ∙ length-append ys left' in
         let h : at + length ys ≤ length l = omega (arith, w .size, w .count, w .room) in
@@ -70,7 +70,7 @@ module _ {A : Type 0} where
     pub writing-end : left ≡ [] → at ≡ at₀ + length whole
     writing-end e = let n : length left ≡ 0 = ap (length {A = A}) e in omega (arith, w .count)
 
-    pub writing-done : left ≡ [] → l ≡ written at₀ whole l₀
+    pub writing-done : left ≡ [] → l ≡ writtenAt at₀ whole l₀
     writing-done e =
         let f : take at l ≡ take at₀ l₀ ++ whole = sym (append-nil (take at l)) ∙ ap (λ (r : List A). take at l ++ r) (sym e) ∙ w .front in
         sym (take-append-drop at l) ∙ ap (λ (r : List A). r ++ drop at l) f

@@ -13,6 +13,7 @@ unfoldable pub allBelow : ℕ → (ℕ → Bool) → Bool
 allBelow zero f = true
 allBelow (suc n) f = allBelow n f && f n
 
+-- the greater of two
 unfoldable pub max : ℕ → ℕ → ℕ
 max a b = cond (ltb a b) b a
 
@@ -25,6 +26,6 @@ unfoldable pub one : Bool → ℕ
 one b = cond b 1 0
 
 -- opens all of the above, for facts that are computed
-unfoldable pub counted : Unit {0}
+unfoldable pub open-counted : Unit {0}
 unfolding sumBelow allBelow max divCeil one
-counted = tt
+open-counted = tt

@@ -10,10 +10,12 @@ module _ {A : Type 0} where
   fold f s [] = s
   fold f s (x ∷ xs) = fold f (f s x) xs
 
+  -- f of each element
   unfoldable pub each : {B : Type 0} → (A → B) → List A → List B
   each f [] = []
   each f (x ∷ xs) = f x ∷ each f xs
 
+  -- the lists that f gives of the elements, joined
   unfoldable pub concatEach : {B : Type 0} → (A → List B) → List A → List B
   concatEach f [] = []
   concatEach f (x ∷ xs) = f x ++ concatEach f xs
@@ -23,11 +25,12 @@ module _ {A : Type 0} where
   filter p [] = []
   filter p (x ∷ xs) = let rest = filter p xs in cond (p x) (x ∷ rest) rest
 
-  -- sorted by a test "at or before", each element put before the first that it is at or before
+  -- x put before the first element that it is at or before, by a test "at or before"
   unfoldable pub insert : (A → A → Bool) → A → List A → List A
   insert before x [] = x ∷ []
   insert before x (y ∷ ys) = let later = y ∷ insert before x ys in cond (before x y) (x ∷ y ∷ ys) later
 
+  -- sorted by such a test; of elements at or before each other the earlier stays first
   unfoldable pub sort : (A → A → Bool) → List A → List A
   sort before [] = []
   sort before (x ∷ xs) = insert before x (sort before xs)
@@ -39,6 +42,6 @@ module _ {A : Type 0} where
   pieces (suc fuel) n (x ∷ xs) = take n (x ∷ xs) ∷ pieces fuel n (drop n (x ∷ xs))
 
 -- opens all of the above, for facts that are computed
-unfoldable pub lists : Unit {0}
+unfoldable pub open-lists : Unit {0}
 unfolding fold each concatEach filter insert sort pieces
-lists = tt
+open-lists = tt

@@ -5,37 +5,38 @@ use mathlib.Core.List.{List, []}
 use native.Mathlib.Omega.{arith}
 use native.Mathlib.Nat.{mul-le-mul}
 use lib.Ieee.{Float}
-use Rattle.floats.specs.Binary.{whole}
 use Rattle.lists.proofs.Bools.{cond-case, is-true}
 use Rattle.lists.proofs.Elements.{all-map}
+use Rattle.floats.specs.Binary.{whole}
 use Rattle.grid.specs.Grid.{cell, cells}
 use Rattle.grid.specs.Map.{Map}
 use Rattle.grid.proofs.Sizes.{Sizes}
-use Rattle.table.specs.Table.{total}
+use Rattle.grid.proofs.CellOrder.{of-on-grid}
+use Rattle.sums.specs.Sums.{total}
 use Rattle.kernel.specs.Circle.{population}
 use Rattle.kernel.proofs.Populations.{population-total}
 use Rattle.blocks.specs.declared.Block.{Block}
-use Rattle.bounds.specs.declared.Spacing.{Spacing}
 use Rattle.blocks.specs.Block.{probe, tile, Rectangle}
+use Rattle.blocks.proofs.Tiles.{probe-held}
+use Rattle.bounds.specs.declared.Spacing.{Spacing}
 use Rattle.bounds.specs.Bound.{wideKm}
 use Rattle.bounds.specs.Spacing.{spacingOf}
-use Rattle.grid.proofs.CellOrder.{of-on-grid}
-use Rattle.blocks.proofs.Tiles.{probe-held}
 use Rattle.candidates.specs.declared.Candidate.{Candidate}
 use Rattle.candidates.specs.declared.Held.{Held}
 use Rattle.candidates.specs.declared.Held.the-variants.{Nobody, Best}
-use Rattle.levels.specs.declared.Tally.{Tally}
 use Rattle.candidates.specs.Candidate.{centreOf, candidate, northWest, prunes}
-use Rattle.levels.specs.Level.{Outcome, Work, noTally, noStats, pruned, evaluated, examine, started, joined, level}
-use Rattle.search.specs.Search.{Levels, searched, heldOr, search}
-use Rattle.levels.specs.Weight.{statsWeight}
 use Rattle.candidates.proofs.Order.{OfHeld, better-of}
+use Rattle.levels.specs.declared.Tally.{Tally}
+use Rattle.levels.specs.Level.{Outcome, Work, noTally, noStats, pruned, evaluated, examine, started, joined, level}
+use Rattle.levels.specs.State.{statsWeight}
 use Rattle.levels.proofs.Rule.{Kept, level-rule}
 use Rattle.levels.proofs.Counts.{next}
 use Rattle.levels.proofs.Finds.{Circle}
+use Rattle.search.specs.declared.SearchResult.{SearchResult}
+use Rattle.search.specs.Search.{searched, heldOr, search}
 use Rattle.search.proofs.Levels.{after, levels-rule, Counted, counted-first, counted-next, no-fuel, Tallied}
 use Rattle.search.proofs.Search.{found, search-is, search-tallied}
-use Rattle.ledger.specs.Places.{InBounds}
+use Rattle.ledger.specs.Requires.{InBounds}
 use Rattle.probes.specs.State.{searchWeight}
 use Rattle.probes.proofs.Kept.{SearchSound}
 
@@ -70,11 +71,11 @@ module _ (m : Map) (km : Float) where
       }
 
   -- before a level
-  record Holding (n : ℕ) (s : Levels) (bs : List Block) : Type 0 where
+  record Holding (n : ℕ) (s : SearchResult) (bs : List Block) : Type 0 where
     pub counted : Counted (m .globe .grid) n (s .tally) bs
     pub circle : OfHeld (Circle m km) (s .held)
 
-  holding-next : (n : ℕ) (s : Levels) (bs : List Block) → Holding (suc n) s bs → Holding n (after m km s bs) (next (level m km (s .held) bs))
+  holding-next : (n : ℕ) (s : SearchResult) (bs : List Block) → Holding (suc n) s bs → Holding n (after m km s bs) (next (level m km (s .held) bs))
   holding-next n s bs i =
       record {
         counted = counted-next m km (s .held) n (s .tally) bs (i .counted);

@@ -10,25 +10,25 @@ use Rattle.grid.specs.Grid.{ceiling}
 use Rattle.grid.specs.Map.{Map}
 use Rattle.bounds.specs.declared.Spacing.{Spacing}
 use Rattle.candidates.specs.declared.Candidate.{Candidate}
-use Rattle.search.specs.declared.MostPopulous.{MostPopulous}
 use Rattle.levels.specs.declared.SearchStats.{SearchStats}
 use Rattle.levels.specs.Level.{plusStats}
+use Rattle.levels.specs.State.{statsWeight}
+use Rattle.search.specs.declared.MostPopulous.{MostPopulous}
 use Rattle.search.specs.Search.{search}
-use Rattle.levels.specs.Weight.{statsWeight}
 use Rattle.ledger.specs.declared.Got.{Got}
 use Rattle.ledger.specs.declared.Got.the-variants.{Circle, Nothing}
 use Rattle.ledger.specs.declared.Ledger.{Ledger}
 use Rattle.ledger.specs.Ledger.{capacity, entry, get, put, ledgerInOrder}
-use Rattle.ledger.specs.Places.{InBounds}
+use Rattle.ledger.specs.Requires.{InBounds}
 use Rattle.ledger.proofs.Order.{got-in-bounds, len-put-most, put-in-order}
-use Rattle.measure.specs.Target.{reaches, withinSlack}
+use Rattle.share.specs.Target.{reaches, withinSlack}
 use Rattle.probes.specs.declared.Ambiguity.{Ambiguity}
 use Rattle.probes.specs.declared.Ambiguity.the-variants as ambiguity-case
 use Rattle.probes.specs.declared.RunState.{RunState}
 use Rattle.probes.specs.declared.SmallestStats.{SmallestStats}
 use Rattle.probes.specs.Smallest.{widened}
 use Rattle.probes.specs.Probes.{mostRadii}
-use Rattle.probes.specs.State.{reusedMore, evaluatedMore, ambiguityAfter, noted, stateWith, stateAfter, ledgerWith, ledgerAfter, probesOf, radiiOf, searchWeight, InOrder}
+use Rattle.probes.specs.State.{reusedMore, evaluatedMore, ambiguityAfter, noted, stateWith, stateAfter, ledgerWith, ledgerProbed, probeCount, radiiOf, searchWeight, InOrder}
 
 -- ---- the counts
 
@@ -51,7 +51,7 @@ pub record SearchSound (g : Grid) (f : MostPopulous) : Type 0 where
 
 module _ (g : Grid) (persons slack : Float) (l : Ledger) (s : RunState) (km : ℕ) (i : InOrder g l s) where
   noted-in-order : (c : Candidate) → InBounds g c → (l′ : Ledger) → ledgerInOrder g l′ ≡ true → l′ .len ≤ l .len + 1 → (t : SmallestStats)
-      → t .«radii_evaluated» + t .«radii_reused» ≡ probesOf s + 1 → statsWeight (t .searched) ≤ statsWeight (s .stats .searched) + searchWeight
+      → t .«radii_evaluated» + t .«radii_reused» ≡ probeCount s + 1 → statsWeight (t .searched) ≤ statsWeight (s .stats .searched) + searchWeight
       → InOrder g l′ (noted persons slack s km c t)
   unfolding noted
   noted-in-order c b l′ o r t n w =
@@ -64,20 +64,20 @@ module _ (g : Grid) (persons slack : Float) (l : Ledger) (s : RunState) (km : �
       }
 
   -- WHAT EVERY PROBE KEEPS
-  pub in-order-next : (m : Map) (spacing : Spacing) → probesOf s < mostRadii → km < ceiling g → SearchSound g (search m spacing km)
-      → InOrder g (ledgerAfter m spacing l km) (stateAfter m spacing persons slack s l km) × (probesOf (stateAfter m spacing persons slack s l km) ≡ probesOf s + 1)
-  unfolding stateAfter stateWith ledgerAfter ledgerWith noted reusedMore evaluatedMore
+  pub in-order-next : (m : Map) (spacing : Spacing) → probeCount s < mostRadii → km < ceiling g → SearchSound g (search m spacing km)
+      → InOrder g (ledgerProbed m spacing l km) (stateAfter m spacing persons slack s l km) × (probeCount (stateAfter m spacing persons slack s l km) ≡ probeCount s + 1)
+  unfolding stateAfter stateWith ledgerProbed ledgerWith noted reusedMore evaluatedMore
   in-order-next m spacing few h f = by (get l km) refl
     where
       by : (q : Got) → get l km ≡ q
-          → InOrder g (ledgerWith m spacing l km q) (stateWith m spacing persons slack s km q) × (probesOf (stateWith m spacing persons slack s km q) ≡ probesOf s + 1)
+          → InOrder g (ledgerWith m spacing l km q) (stateWith m spacing persons slack s km q) × (probeCount (stateWith m spacing persons slack s km q) ≡ probeCount s + 1)
       by (Circle c) e =
-          let more : s .stats .«radii_evaluated» + (s .stats .«radii_reused» + 1) ≡ probesOf s + 1 = omega arith in
+          let more : s .stats .«radii_evaluated» + (s .stats .«radii_reused» + 1) ≡ probeCount s + 1 = omega arith in
           (noted-in-order c (got-in-bounds g l km c (i .ledger) e) l (i .ledger) (omega arith) (reusedMore (s .stats)) more (omega arith), more)
       by Nothing e =
           let c = search m spacing km .centre in
           let room : l .len + 1 ≤ capacity = omega (arith, i .room) in
-          let more : s .stats .«radii_evaluated» + 1 + s .stats .«radii_reused» ≡ probesOf s + 1 = omega arith in
+          let more : s .stats .«radii_evaluated» + 1 + s .stats .«radii_reused» ≡ probeCount s + 1 = omega arith in
           let light : statsWeight (plusStats (s .stats .searched) (search m spacing km .tally .stats)) ≤ statsWeight (s .stats .searched) + searchWeight
           = omega (arith, plus-weight (s .stats .searched) (search m spacing km .tally .stats), f .light)
           in (

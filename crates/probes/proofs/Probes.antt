@@ -7,37 +7,38 @@ use lib.Ieee.{Float}
 use Rattle.grid.specs.declared.Grid.{Grid}
 use Rattle.grid.specs.Map.{Map}
 use Rattle.grid.proofs.Sizes.{grid-sizes}
-use Rattle.table.specs.Table.{total}
-use Rattle.table.proofs.Tables.{bare-total}
+use Rattle.sums.specs.Sums.{total}
+use Rattle.sums.proofs.Tables.{bare-total}
 use Rattle.bounds.specs.declared.Spacing.{Spacing}
 use Rattle.candidates.specs.declared.Candidate.{Candidate}
+use Rattle.levels.specs.State.{summedMap}
+use Rattle.levels.specs.Requires.{Ready}
 use Rattle.search.specs.declared.MostPopulous.{MostPopulous}
 use Rattle.search.specs.Search.{search}
-use Rattle.levels.specs.Work.{mapOf, Ready}
 use Rattle.ledger.specs.declared.Entry.{Entry}
 use Rattle.ledger.specs.declared.Got.the-variants.{Circle, Nothing}
 use Rattle.ledger.specs.declared.Ledger.{Ledger}
 use Rattle.ledger.specs.Ledger.{entry, get, put}
-use Rattle.ledger.specs.Places.{InBounds, PutRoom}
+use Rattle.ledger.specs.Requires.{InBounds, PutRoom}
 use Rattle.ledger.proofs.Calls.{room-free}
 use Rattle.ledger.proofs.Order.{got-in-bounds, ordered}
 use Rattle.probes.specs.declared.RunState.{RunState}
 use Rattle.probes.specs.Probes.{mostRadii}
-use Rattle.probes.specs.State.{reusedMore, evaluatedMore, noted, stateWith, stateAfter, ledgerWith, ledgerAfter, probesOf, InOrder}
-use Rattle.probes.specs.Probing.{CanNote, CanEvaluate}
+use Rattle.probes.specs.State.{reusedMore, evaluatedMore, noted, stateWith, stateAfter, ledgerWith, ledgerProbed, probeCount, InOrder}
+use Rattle.probes.specs.Requires.{CanNote, CanEvaluate}
 use Rattle.probes.proofs.Kept.{SearchSound}
 use Rattle.probes.proofs.AnySheet.{search-sound}
 
 -- the people of a table's map, exactly
-pub people-exact : (g : Grid) (angles cosines : List Float) (sums : List ℕ) → Ready g angles cosines sums → total (mapOf g angles cosines sums) ≤ 2 ^ 53
-people-exact g angles cosines sums r = omega (arith, bare-total (mapOf g angles cosines sums), r .table .exact)
+pub people-exact : (g : Grid) (angles cosines : List Float) (sums : List ℕ) → Ready g angles cosines sums → total (summedMap g angles cosines sums) ≤ 2 ^ 53
+people-exact g angles cosines sums r = omega (arith, bare-total (summedMap g angles cosines sums), r .table .exact)
 
 pub ready-sound : (g : Grid) (angles cosines : List Float) (sums : List ℕ) → Ready g angles cosines sums → (spacing : Spacing) (km : ℕ)
-    → SearchSound g (search (mapOf g angles cosines sums) spacing km)
+    → SearchSound g (search (summedMap g angles cosines sums) spacing km)
 ready-sound g angles cosines sums r spacing km =
-    search-sound (mapOf g angles cosines sums) (grid-sizes g (r .sizes)) (people-exact g angles cosines sums r) spacing km
+    search-sound (summedMap g angles cosines sums) (grid-sizes g (r .sizes)) (people-exact g angles cosines sums r) spacing km
 
-module _ {g : Grid} {l : Ledger} {s : RunState} (i : InOrder g l s) (few : probesOf s < mostRadii) where
+module _ {g : Grid} {l : Ledger} {s : RunState} (i : InOrder g l s) (few : probeCount s < mostRadii) where
   can-note : (c : Candidate) → InBounds g c → CanNote s c
   can-note c b = record { exact = b .exact; few = few; radii = i .radii }
 
@@ -53,14 +54,14 @@ module _ {g : Grid} {l : Ledger} {s : RunState} (i : InOrder g l s) (few : probe
 module _ (m : Map) (spacing : Spacing) (persons slack : Float) (l : Ledger) (s : RunState) (km : ℕ) where
   -- one probe on
   pub record ProbedTo (l′ : Ledger) (s′ : RunState) : Type 0 where
-    pub ledger : l′ ≡ ledgerAfter m spacing l km
+    pub ledger : l′ ≡ ledgerProbed m spacing l km
     pub state : s′ ≡ stateAfter m spacing persons slack s l km
 
   pub after-reuse : {c : Candidate} → get l km ≡ Circle c → {l′ : Ledger} → l′ ≡ l → {s′ : RunState} → s′ ≡ noted persons slack s km c (reusedMore (s .stats)) → ProbedTo l′ s′
-  unfolding stateAfter stateWith ledgerAfter ledgerWith
+  unfolding stateAfter stateWith ledgerProbed ledgerWith
   after-reuse e h f = record { ledger = rw e h; state = rw e f }
 
   pub after-search : get l km ≡ Nothing → {f : MostPopulous} → f ≡ search m spacing km → {x : Entry} → x ≡ entry km (f .centre) → {l′ : Ledger} → l′ ≡ put l x
       → {s′ : RunState} → s′ ≡ noted persons slack s km (f .centre) (evaluatedMore (s .stats) (f .tally .stats)) → ProbedTo l′ s′
-  unfolding stateAfter stateWith ledgerAfter ledgerWith
+  unfolding stateAfter stateWith ledgerProbed ledgerWith
   after-search e k x h f = record { ledger = rw (e, ← k, ← x) h; state = rw (e, ← k) f }

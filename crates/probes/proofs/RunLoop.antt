@@ -6,41 +6,40 @@ use mathlib.Core.Bool.{Bool, true, false, cond, true≢false}
 use native.Mathlib.Omega.{arith}
 use lib.Ieee.{Float}
 use lib.ListN.{length}
-use Rattle.floats.specs.Binary.{whole}
 use Rattle.lists.proofs.Bools.{cases, is-true}
+use Rattle.floats.specs.Binary.{whole}
 use Rattle.grid.specs.declared.Grid.{Grid}
 use Rattle.grid.specs.Grid.{ceiling, cell}
 use Rattle.grid.specs.Map.{Map}
 use Rattle.grid.proofs.Ceiling.{ceiling-least, ceiling-most}
 use Rattle.grid.proofs.Sizes.{Sizes, grid-sizes}
-use Rattle.table.specs.Table.{total}
-use Rattle.bounds.specs.declared.Spacing.{Spacing}
 use Rattle.grid.proofs.CellOrder.{of-on-grid}
+use Rattle.sums.specs.Sums.{total}
+use Rattle.bounds.specs.declared.Spacing.{Spacing}
 use Rattle.candidates.specs.declared.Candidate.{Candidate}
 use Rattle.candidates.specs.Candidate.{northWest}
 use Rattle.levels.specs.Level.{noStats}
+use Rattle.levels.specs.State.{statsWeight, summedMap}
 use Rattle.search.specs.declared.MostPopulous.{MostPopulous}
-use Rattle.search.specs.Buffer.{CanSearch}
+use Rattle.search.specs.Requires.{CanSearch}
 use Rattle.search.specs.Search.{search}
-use Rattle.levels.specs.Weight.{statsWeight}
-use Rattle.levels.specs.Work.{mapOf}
 use Rattle.ledger.specs.declared.Entry.{Entry}
 use Rattle.ledger.specs.declared.Got.the-variants.{Circle}
 use Rattle.ledger.specs.declared.Ledger.{Ledger}
 use Rattle.ledger.specs.Ledger.{get, ledgerInOrder, placesFree}
-use Rattle.ledger.specs.Places.{PutRoom}
+use Rattle.ledger.specs.Requires.{PutRoom}
 use Rattle.ledger.proofs.Laws.{places-free}
 use Rattle.climb.specs.declared.Bracket.{Bracket}
 use Rattle.climb.specs.Climb.{Ended, climb, climbRadii}
-use Rattle.climb.specs.Next.{bracketStart, bracketClosed, nextRadius, bracketNext}
+use Rattle.climb.specs.State.{bracketStart, bracketClosed, nextRadius, bracketNext}
 use Rattle.climb.proofs.NextRadii.{Stage, stage-start, stage-open, left, left-start, stage-next, left-reached, left-short}
-use Rattle.measure.specs.declared.Target.{Target}
-use Rattle.measure.specs.Target.{reaches, shareOf, predicateSlackPersons}
+use Rattle.share.specs.declared.Target.{Target}
+use Rattle.share.specs.Target.{targetOf, reaches, predicateSlackPersons}
 use Rattle.probes.specs.declared.RunState.{RunState}
 use Rattle.probes.specs.Probes.{mostRadii, Run, targetPersons, probed, latest, smallestRun}
-use Rattle.probes.specs.Smallest.{Settled, target, smallestAt, concluded, smallest}
-use Rattle.probes.specs.State.{begun, stateAfter, probesOf, radiiOf, InOrder, answerBy, settledBy}
-use Rattle.probes.specs.Probing.{CanNote, CanEvaluate, CanRun, Ran}
+use Rattle.probes.specs.Smallest.{Settled, smallestAt, concluded, smallest}
+use Rattle.probes.specs.State.{runBegun, stateAfter, probeCount, radiiOf, InOrder, answerWith, answerBy, settledBy, Ran}
+use Rattle.probes.specs.Requires.{CanNote, CanEvaluate, CanRun}
 use Rattle.probes.proofs.States.{starting, Tracks, tracks-begun, tracks-next}
 use Rattle.probes.proofs.Kept.{SearchSound, in-order-next}
 use Rattle.probes.proofs.Probes.{people-exact, ready-sound, can-reuse, can-put, can-evaluate, ProbedTo}
@@ -63,8 +62,8 @@ next-unreached cap c false e = (refl, cases (c .reached) (λ r. absurd (true≢f
 
 -- ---- the state at the start
 
-begun-in-order : (g : Grid) → Sizes g → (people : ℕ) → people ≤ 2 ^ 53 → (l : Ledger) → ledgerInOrder g l ≡ true → placesFree l mostRadii ≡ true → InOrder g l (begun people)
-unfolding begun noStats statsWeight radiiOf northWest
+begun-in-order : (g : Grid) → Sizes g → (people : ℕ) → people ≤ 2 ^ 53 → (l : Ledger) → ledgerInOrder g l ≡ true → placesFree l mostRadii ≡ true → InOrder g l (runBegun people)
+unfolding runBegun noStats statsWeight radiiOf northWest
 begun-in-order g sizes people exact l o r =
     record {
       ledger = o;
@@ -81,21 +80,7 @@ begun-in-order g sizes people exact l o r =
 -- the answer and the ledger of a run that has ended, given whether the circle is the whole grid
 abbrev settledWith : Map → Float → Bracket → RunState → Ledger → Bool → Settled
 settledWith m share c s h covers =
-    record {
-      answer = record {
-        «radius_km» = record { 0 = c .low };
-        centre = s .found;
-        target = target m share;
-        «share_achieved» = shareOf (s .found .population) (total m);
-        «short_below» = s .short;
-        «covers_whole_grid» = covers;
-        «predicate_slack_persons» = predicateSlackPersons (m .globe .grid) (whole (total m));
-        ambiguity = s .ambiguity;
-        «tolerance_persons» = whole 0;
-        stats = s .stats;
-      };
-      ledger = h;
-    }
+    record { answer = answerWith (targetOf share (total m)) (predicateSlackPersons (m .globe .grid) (whole (total m))) (total m) c s covers; ledger = h }
 
 -- ---- the loop
 
@@ -110,12 +95,12 @@ module _ (m : Map) (spacing : Spacing) (persons slack : Float) (people : ℕ) (l
     pub fuel : ℕ
     pub tracks : Tracks persons slack (c .low) run h s
     pub same : whole-run ≡ left (probed m spacing) latest (reaches persons) (lastKm m) fuel c run (s .found)
-    pub stage : Stage (lastKm m) (probesOf s) fuel c
+    pub stage : Stage (lastKm m) (probeCount s) fuel c
     pub order : InOrder (m .globe .grid) h s
     pub unfound : c .reached ≡ false → s .found ≡ northWest people
 
-  pub running-start : Sizes (m .globe .grid) → people ≤ 2 ^ 53 → ledgerInOrder (m .globe .grid) l ≡ true → placesFree l mostRadii ≡ true → Running l (begun people) bracketStart
-  unfolding begun bracketStart
+  pub running-start : Sizes (m .globe .grid) → people ≤ 2 ^ 53 → ledgerInOrder (m .globe .grid) l ≡ true → placesFree l mostRadii ≡ true → Running l (runBegun people) bracketStart
+  unfolding runBegun bracketStart
   running-start sizes exact o r =
       let least = ceiling-least (m .globe .grid) in
       let most = ceiling-most (m .globe .grid) in
@@ -131,14 +116,14 @@ module _ (m : Map) (spacing : Spacing) (persons slack : Float) (people : ℕ) (l
 
   module _ (h : Ledger) (s : RunState) (c : Bracket) (i : Running h s c) where
     -- a bracket that is not closed leaves a probe to make
-    pub running-open : bracketClosed c ≡ false → (nextRadius c < ceiling (m .globe .grid)) × (probesOf s < mostRadii)
+    pub running-open : bracketClosed c ≡ false → (nextRadius c < ceiling (m .globe .grid)) × (probeCount s < mostRadii)
     running-open o =
-        let x = stage-open (lastKm m) (probesOf s) (i .fuel) c (i .stage) o in
+        let x = stage-open (lastKm m) (probeCount s) (i .fuel) c (i .stage) o in
         (omega (arith, x .0, ceiling-least (m .globe .grid)), x .1)
 
     pub running-next : bracketClosed c ≡ false → SearchSound (m .globe .grid) (search m spacing (nextRadius c))
         → (h′ : Ledger) (s′ : RunState) (c′ : Bracket) → ProbedTo m spacing persons slack h s (nextRadius c) h′ s′ → c′ ≡ bracketNext (lastKm m) c (s′ .reached)
-        → Running h′ s′ c′ × (probesOf s′ ≡ probesOf s + 1)
+        → Running h′ s′ c′ × (probeCount s′ ≡ probeCount s + 1)
     running-next o sound h′ s′ c′ e f =
         let km = nextRadius c in
         let r′ = probed m spacing (i .run) km in
@@ -146,7 +131,7 @@ module _ (m : Map) (spacing : Spacing) (persons slack : Float) (people : ℕ) (l
         let kept = in-order-next (m .globe .grid) persons slack h s km (i .order) m spacing (at .1) (at .0) sound in
         let t = tracks-next persons slack (c .low) (i .run) h s (i .tracks) m spacing km in
         let b = stateAfter m spacing persons slack s h km .reached in
-        let n = stage-next (probed m spacing) latest (reaches persons) (lastKm m) (probesOf s) (i .fuel) (i .run) (s .found) c b (i .stage) o (sym (t .reached)) in
+        let n = stage-next (probed m spacing) latest (reaches persons) (lastKm m) (probeCount s) (i .fuel) (i .run) (s .found) c b (i .stage) o (sym (t .reached)) in
         rw (f, e .ledger, e .state) (
           record {
             run = r′;
@@ -181,43 +166,43 @@ module _ (m : Map) (spacing : Spacing) (persons slack : Float) (people : ℕ) (l
       running-end o =
           cases (c .reached)
           (λ r.
-          let ends = the-run ∙ i .same ∙ left-reached (probed m spacing) latest (reaches persons) (lastKm m) (probesOf s) (i .fuel) (i .run) (s .found) c (i .stage) o r in
+          let ends = the-run ∙ i .same ∙ left-reached (probed m spacing) latest (reaches persons) (lastKm m) (probeCount s) (i .fuel) (i .run) (s .found) c (i .stage) o r in
           rw (ends, r) (fields (c .low) (s .found) _ refl refl))
           (λ r.
-          let short = left-short (probed m spacing) latest (reaches persons) (lastKm m) (probesOf s) (i .fuel) (i .run) (s .found) c (i .stage) o r in
+          let short = left-short (probed m spacing) latest (reaches persons) (lastKm m) (probeCount s) (i .fuel) (i .run) (s .found) c (i .stage) o r in
           let ends = the-run ∙ i .same ∙ short .0 in
           let top : c .low ≡ ceiling (m .globe .grid) = omega (arith, short .1, ceiling-least (m .globe .grid)) in
           rw (ends, r) (fields (ceiling (m .globe .grid)) (northWest (total m)) true top (rw (← k) (i .unfound r))))
 
 -- ---- the loop's own terms
 
-module _ {g : Grid} {angles cosines : List Float} {sums near far : List ℕ} {t : Target} {slack : Float} {people : ℕ} {l : Ledger}
-    (can : CanRun g angles cosines sums near far t slack people l) (spacing : Spacing) where
+module _ {g : Grid} {angles cosines : List Float} {sums current following : List ℕ} {t : Target} {slack : Float} {people : ℕ} {l : Ledger}
+    (can : CanRun g angles cosines sums current following t slack people l) (spacing : Spacing) where
   -- the run of the loop
   abbrev pub Looping : Ledger → RunState → Bracket → Type 0
-  Looping h s c = Running (mapOf g angles cosines sums) spacing (t .persons) slack people l h s c
+  Looping h s c = Running (summedMap g angles cosines sums) spacing (t .persons) slack people l h s c
 
   people-few : people ≤ 2 ^ 53
-  people-few = rw (can .people-are) (people-exact g angles cosines sums (can .search .ready))
+  people-few = rw (can .total-is) (people-exact g angles cosines sums (can .search .ready))
 
-  pub loop-starts : {s₀ : RunState} → s₀ ≡ begun people → {c₀ : Bracket} → c₀ ≡ bracketStart → Looping l s₀ c₀
+  pub loop-starts : {s₀ : RunState} → s₀ ≡ runBegun people → {c₀ : Bracket} → c₀ ≡ bracketStart → Looping l s₀ c₀
   loop-starts b e =
       rw (e, b)
-      (running-start (mapOf g angles cosines sums) spacing (t .persons) slack people l (grid-sizes g (can .search .ready .sizes)) people-few (can .ledger) (can .room))
+      (running-start (summedMap g angles cosines sums) spacing (t .persons) slack people l (grid-sizes g (can .search .ready .sizes)) people-few (can .ledger) (can .room))
 
   module _ {h : Ledger} {s : RunState} {c : Bracket} (i : Looping h s c) (o : bracketClosed c ≡ false) where
-    at : (nextRadius c < ceiling g) × (probesOf s < mostRadii)
-    at = running-open (mapOf g angles cosines sums) spacing (t .persons) slack people l h s c i o
+    at : (nextRadius c < ceiling g) × (probeCount s < mostRadii)
+    at = running-open (summedMap g angles cosines sums) spacing (t .persons) slack people l h s c i o
 
-    pub loop-searches : {near′ far′ : List ℕ} → length near′ ≡ length near → length far′ ≡ length far → CanSearch g angles cosines sums near′ far′
-    loop-searches {near′} {far′} n f =
+    pub loop-searches : {current′ following′ : List ℕ} → length current′ ≡ length current → length following′ ≡ length following → CanSearch g angles cosines sums current′ following′
+    loop-searches {current′} {following′} n f =
         record {
           ready = can .search .ready;
           buffers =
               record {
                 sizes = can .search .ready .sizes;
-                near-room = omega (arith, can .search .buffers .near-room);
-                far-room = omega (arith, can .search .buffers .far-room);
+                current-room = omega (arith, can .search .buffers .current-room);
+                following-room = omega (arith, can .search .buffers .following-room);
               };
         }
 
@@ -227,29 +212,29 @@ module _ {g : Grid} {angles cosines : List Float} {sums near far : List ℕ} {t 
     pub loop-puts : (x : Entry) → PutRoom h x
     loop-puts x = can-put (i .order) (at .1) x
 
-    pub loop-evaluates : (km : ℕ) {f : MostPopulous} → f ≡ search (mapOf g angles cosines sums) spacing km → CanEvaluate s f
+    pub loop-evaluates : (km : ℕ) {f : MostPopulous} → f ≡ search (summedMap g angles cosines sums) spacing km → CanEvaluate s f
     loop-evaluates km e = can-evaluate (i .order) (at .1) (rw e (ready-sound g angles cosines sums (can .search .ready) spacing km))
 
     pub loop-fits : nextRadius c + 1 < 2 ^ 32
     unfolding ceiling
     loop-fits = omega (arith, at .0)
 
-    pub loop-goes-on : {km last : ℕ} {h′ : Ledger} {s′ : RunState} {c′ : Bracket} → km ≡ nextRadius c → last ≡ lastKm (mapOf g angles cosines sums)
-        → ProbedTo (mapOf g angles cosines sums) spacing (t .persons) slack h s km h′ s′ → c′ ≡ bracketNext last c (s′ .reached)
-        → Looping h′ s′ c′ × (probesOf s′ ≡ probesOf s + 1)
+    pub loop-goes-on : {km last : ℕ} {h′ : Ledger} {s′ : RunState} {c′ : Bracket} → km ≡ nextRadius c → last ≡ lastKm (summedMap g angles cosines sums)
+        → ProbedTo (summedMap g angles cosines sums) spacing (t .persons) slack h s km h′ s′ → c′ ≡ bracketNext last c (s′ .reached)
+        → Looping h′ s′ c′ × (probeCount s′ ≡ probeCount s + 1)
     loop-goes-on {h′ = h′} {s′ = s′} {c′ = c′} e k f n =
-        running-next (mapOf g angles cosines sums) spacing (t .persons) slack people l h s c i o (ready-sound g angles cosines sums (can .search .ready) spacing (nextRadius c))
+        running-next (summedMap g angles cosines sums) spacing (t .persons) slack people l h s c i o (ready-sound g angles cosines sums (can .search .ready) spacing (nextRadius c))
         h′ s′ c′ (rw (← e) f) (rw (← k) n)
 
-    pub loop-falls : (s′ : RunState) → probesOf s′ ≡ probesOf s + 1 → mostRadii - probesOf s′ < mostRadii - probesOf s
+    pub loop-falls : (s′ : RunState) → probeCount s′ ≡ probeCount s + 1 → mostRadii - probeCount s′ < mostRadii - probeCount s
     loop-falls s′ e = omega (arith, at .1)
 
-  pub loop-ends : {h : Ledger} {s : RunState} {c : Bracket} → Looping h s c → bracketClosed c ≡ true → Ran (mapOf g angles cosines sums) spacing (t .share) l (record { bracket = c; state = s; ledger = h })
-  unfolding target
+  pub loop-ends : {h : Ledger} {s : RunState} {c : Bracket} → Looping h s c → bracketClosed c ≡ true → Ran (summedMap g angles cosines sums) spacing (t .share) l (record { bracket = c; state = s; ledger = h })
+  unfolding targetPersons
   loop-ends {h} {s} {c} i o =
-      let m = mapOf g angles cosines sums in
+      let m = summedMap g angles cosines sums in
       let persons : t .persons ≡ targetPersons m (t .share) = ap (λ (x : Target). x .persons) (can .target) in
       let all : t .total ≡ whole (total m) = ap (λ (x : Target). x .total) (can .target) in
       let width : slack ≡ predicateSlackPersons g (whole (total m)) = rw (← all) (can .slack-is) in
-      let ends = running-end m spacing (t .persons) slack people l h s c i (t .share) persons width (can .people-are) o in
+      let ends = running-end m spacing (t .persons) slack people l h s c i (t .share) persons width (can .total-is) o in
       record { same = ends; found = i .order .found }

@@ -20,12 +20,12 @@ use Rattle.ledger.specs.declared.Got.{Got}
 use Rattle.ledger.specs.declared.Got.the-variants.{Circle, Nothing}
 use Rattle.ledger.specs.declared.Ledger.{Ledger}
 use Rattle.ledger.specs.Ledger.{entry, get, put}
-use Rattle.measure.specs.Target.{reaches}
+use Rattle.share.specs.Target.{reaches}
 use Rattle.probes.specs.declared.RunState.{RunState}
 use Rattle.probes.specs.declared.SmallestStats.{SmallestStats}
 use Rattle.probes.specs.Probes.{Probe, Run, reusedAt, searchedAt, probedWith, probed, latestOf, latest, howMany, evaluatedIn, reusedIn, statsOf}
 use Rattle.probes.specs.Smallest.{shortBelow, ambiguity}
-use Rattle.probes.specs.State.{counts, begun, reusedMore, evaluatedMore, shortAfter, ambiguityAfter, noted, stateWith, stateAfter, ledgerWith, ledgerAfter}
+use Rattle.probes.specs.State.{counts, runBegun, reusedMore, evaluatedMore, shortAfter, ambiguityAfter, noted, stateWith, stateAfter, ledgerWith, ledgerProbed}
 
 -- a run that has not begun
 abbrev pub starting : Ledger → Run
@@ -50,8 +50,8 @@ pub record Tracks (persons slack : Float) (low : ℕ) (r : Run) (l : Ledger) (s 
   pub ambiguous : s .ambiguity ≡ ambiguity persons slack (r .trace)
   pub stats : s .stats ≡ counts (evaluatedIn (r .trace)) (reusedIn (r .trace)) (statsOf (r .trace))
 
-pub tracks-begun : (persons slack : Float) (people : ℕ) (l : Ledger) → Tracks persons slack 0 (starting l) l (begun people)
-unfolding begun shortBelow ambiguity evaluatedIn reusedIn howMany statsOf
+pub tracks-begun : (persons slack : Float) (people : ℕ) (l : Ledger) → Tracks persons slack 0 (starting l) l (runBegun people)
+unfolding runBegun shortBelow ambiguity evaluatedIn reusedIn howMany statsOf
 tracks-begun persons slack people l = record { ledger = refl; short = refl; ambiguous = refl; stats = refl }
 
 -- a search that was not made counts nothing
@@ -83,8 +83,8 @@ module _ (persons slack : Float) (low : ℕ) (r : Run) (l : Ledger) (s : RunStat
       }
 
   -- ONE PROBE ON, the state tracks the run
-  pub tracks-next : (m : Map) (spacing : Spacing) (km : ℕ) → Tracked persons slack low s km (probed m spacing r km) (ledgerAfter m spacing l km) (stateAfter m spacing persons slack s l km)
-  unfolding probed probedWith reusedAt searchedAt stateAfter stateWith ledgerAfter ledgerWith latest latestOf noted reusedMore evaluatedMore evaluatedIn reusedIn howMany statsOf one
+  pub tracks-next : (m : Map) (spacing : Spacing) (km : ℕ) → Tracked persons slack low s km (probed m spacing r km) (ledgerProbed m spacing l km) (stateAfter m spacing persons slack s l km)
+  unfolding probed probedWith reusedAt searchedAt stateAfter stateWith ledgerProbed ledgerWith latest latestOf noted reusedMore evaluatedMore evaluatedIn reusedIn howMany statsOf one
   tracks-next m spacing km =
       let same : get l km ≡ get (r .ledger) km = ap (λ (h : Ledger). get h km) (k .ledger) in
       rw same (by (get (r .ledger) km))

@@ -1,5 +1,5 @@
 pub mod Probes
 pub mod Smallest
 pub mod State
-pub mod Probing
+pub mod Requires
 pub mod Ring

@@ -3,37 +3,38 @@ use Prim.Native.Nat.{ℕ, _+_, _-_}
 use mathlib.Core.Bool.{Bool, true, false, not}
 use mathlib.Core.List.{List, [], _∷_}
 use lib.Ieee.{Float}
-use Rattle.floats.specs.Binary.{whole, _⊗_}
 use Rattle.lists.specs.Counted.{one}
 use Rattle.grid.specs.Map.{Map}
 use Rattle.grid.specs.Grid.{ceiling}
-use Rattle.table.specs.Table.{total}
-use Rattle.candidates.specs.declared.Candidate.{Candidate}
-use Rattle.search.specs.declared.MostPopulous.{MostPopulous}
-use Rattle.levels.specs.declared.SearchStats.{SearchStats}
+use Rattle.sums.specs.Sums.{total}
 use Rattle.bounds.specs.declared.Spacing.{Spacing}
+use Rattle.candidates.specs.declared.Candidate.{Candidate}
 use Rattle.candidates.specs.Candidate.{northWest}
+use Rattle.levels.specs.declared.SearchStats.{SearchStats}
 use Rattle.levels.specs.Level.{noStats, plusStats}
+use Rattle.search.specs.declared.MostPopulous.{MostPopulous}
 use Rattle.search.specs.Search.{search}
 use Rattle.ledger.specs.declared.Got.{Got}
 use Rattle.ledger.specs.declared.Got.the-variants.{Circle, Nothing}
 use Rattle.ledger.specs.declared.Ledger.{Ledger}
 use Rattle.ledger.specs.Ledger.{entry, get, put}
-use Rattle.measure.specs.Target.{reaches}
 use Rattle.climb.specs.Climb.{Ended, climb, climbRadii}
+use Rattle.share.specs.Target.{targetOf, reaches}
 
--- the most radii that a call probes
+-- the most radii that a call probes: 15 up to 16,384 km and 13 halvings of the 8,192 radii from 8,193 on, or 16 up to 20,015 km and 12 halvings of
+-- the 3,631 radii from 16,385 on
 abbrev pub mostRadii : ℕ
 mostRadii = 28
 
 -- ---- the target
 
--- share × total, one rounding
+-- share × total of a map
 unfoldable pub targetPersons : Map → Float → Float
-targetPersons m share = share ⊗ whole (total m)
+targetPersons m share = targetOf share (total m) .persons
 
 -- ---- a probe
 
+-- a kilometre, the best circle there, whether the ledger held it, and the counts of its search
 pub record Probe : Type 0 where
   pub km : ℕ
   pub centre : Candidate
@@ -45,9 +46,11 @@ pub record Run : Type 0 where
   pub trace : List Probe
   pub ledger : Ledger
 
+-- one probe more, by the ledger's entry, with no search to count
 unfoldable pub reusedAt : Run → ℕ → Candidate → Run
 reusedAt r km c = record { trace = record { km = km; centre = c; reused = true; stats = noStats } ∷ r .trace; ledger = r .ledger }
 
+-- one probe more, by a search, which is put
 unfoldable pub searchedAt : Run → ℕ → MostPopulous → Run
 searchedAt r km f =
     record {
@@ -55,18 +58,21 @@ searchedAt r km f =
       ledger = put (r .ledger) (entry km (f .centre));
     }
 
--- the ledger's entry, or else a search that is put
+-- the ledger's entry, or else a search
 unfoldable pub probedWith : Map → Spacing → Run → ℕ → Got → Run
 probedWith m spacing r km (Circle c) = reusedAt r km c
 probedWith m spacing r km Nothing = searchedAt r km (search m spacing km)
 
+-- one probe more at a kilometre
 unfoldable pub probed : Map → Spacing → Run → ℕ → Run
 probed m spacing r km = probedWith m spacing r km (get (r .ledger) km)
 
+-- what the latest probe found
 unfoldable pub latestOf : List Probe → Candidate
 latestOf [] = northWest 0
 latestOf (p ∷ ps) = p .centre
 
+-- what the latest probe of a run found
 unfoldable pub latest : Run → Candidate
 latest r = latestOf (r .trace)
 
@@ -80,13 +86,16 @@ smallestRun m spacing share l =
 
 -- ---- what the trace says
 
+-- how many probes a test holds of
 unfoldable pub howMany : (Probe → Bool) → List Probe → ℕ
 howMany p [] = 0
 howMany p (x ∷ xs) = howMany p xs + one (p x)
 
+-- radii evaluated: the probes that searched
 unfoldable pub evaluatedIn : List Probe → ℕ
 evaluatedIn ps = howMany (λ p. not (p .reused)) ps
 
+-- radii reused: the probes that the ledger answered
 unfoldable pub reusedIn : List Probe → ℕ
 reusedIn ps = howMany (λ p. p .reused) ps
 
@@ -96,6 +105,6 @@ statsOf [] = noStats
 statsOf (p ∷ ps) = plusStats (statsOf ps) (p .stats)
 
 -- opens all of the above, for facts that are computed
-unfoldable pub probes : Unit {0}
+unfoldable pub open-probes : Unit {0}
 unfolding targetPersons reusedAt searchedAt probedWith probed latestOf latest smallestRun howMany evaluatedIn reusedIn statsOf
-probes = tt
+open-probes = tt

@@ -1,39 +1,36 @@
 -- The smallest radius: the fields of its answer, from the end of a run.
 use Prim.Native.Nat.{ℕ, _+_, min}
-use mathlib.Core.Bool.{Bool, true, cond, not, _&&_}
+use mathlib.Core.Bool.{Bool, true, not, cond, _&&_}
 use mathlib.Core.List.{List, [], _∷_}
-use lib.Ieee.{Float}
 use lib.Dec.{eqb}
-use Rattle.floats.specs.Binary.{whole}
+use lib.Ieee.{Float}
 use Rattle.lists.specs.Counted.{max}
-use Rattle.grid.specs.Grid.{ceiling}
+use Rattle.floats.specs.Binary.{whole}
 use Rattle.grid.specs.Map.{Map}
-use Rattle.table.specs.Table.{total}
+use Rattle.grid.specs.Grid.{ceiling}
+use Rattle.sums.specs.Sums.{total}
 use Rattle.kernel.specs.Circle.{coversWholeGrid}
-use Rattle.candidates.specs.declared.Candidate.{Candidate}
 use Rattle.bounds.specs.declared.Spacing.{Spacing}
+use Rattle.candidates.specs.declared.Candidate.{Candidate}
 use Rattle.candidates.specs.Candidate.{northWest}
 use Rattle.ledger.specs.declared.Ledger.{Ledger}
 use Rattle.climb.specs.Climb.{Ended, allShort, reachedAt}
-use Rattle.measure.specs.declared.Target.{Target}
-use Rattle.measure.specs.Target.{reaches, shareOf, predicateSlackPersons, withinSlack}
+use Rattle.share.specs.Target.{targetOf, reaches, shareOf, predicateSlackPersons, withinSlack}
 use Rattle.probes.specs.declared.Ambiguity.{Ambiguity}
 use Rattle.probes.specs.declared.Ambiguity.the-variants as ambiguity-case
 use Rattle.probes.specs.declared.ShortBelow.{ShortBelow}
 use Rattle.probes.specs.declared.ShortBelow.the-variants as short-case
 use Rattle.probes.specs.declared.Smallest.{Smallest}
-use Rattle.probes.specs.Probes.{Probe, Run, targetPersons, smallestRun, evaluatedIn, reusedIn, statsOf}
+use Rattle.probes.specs.Probes.{targetPersons, Probe, Run, smallestRun, evaluatedIn, reusedIn, statsOf}
 
-unfoldable pub target : Map → Float → Target
-target m share = record { share = share; persons = targetPersons m share; total = whole (total m) }
-
--- the probe that fell short one kilometre below the answer, else absent
+-- the probe that fell short one kilometre below the answer, else absent: a short probe further down does not tell that the answer is the smallest
 unfoldable pub shortBelow : Float → ℕ → List Probe → ShortBelow
 shortBelow persons km [] = short-case.Absent
 shortBelow persons km (p ∷ ps) =
     let rest = shortBelow persons km ps in
     cond (eqb (p .km + 1) km && not (reaches persons (p .centre))) (short-case.Witness (record { 0 = p .km }) (p .centre .population)) rest
 
+-- one radius more within the slack
 unfoldable pub widened : Ambiguity → ℕ → Ambiguity
 widened ambiguity-case.Absent km = ambiguity-case.Radii (record { 0 = km }) (record { 0 = km }) 1
 widened (ambiguity-case.Radii low high n) km = ambiguity-case.Radii (record { 0 = min (low .0) km }) (record { 0 = max (high .0) km }) (n + 1)
@@ -54,7 +51,7 @@ smallestAt m share trace km centre covers =
     record {
       «radius_km» = record { 0 = km };
       centre = centre;
-      target = target m share;
+      target = targetOf share (total m);
       «share_achieved» = shareOf (centre .population) (total m);
       «short_below» = shortBelow persons km trace;
       «covers_whole_grid» = covers;
@@ -81,6 +78,6 @@ unfoldable pub smallest : Map → Spacing → Float → Ledger → Settled
 smallest m spacing share l = concluded m share (smallestRun m spacing share l)
 
 -- opens all of the above, for facts that are computed
-unfoldable pub smallests : Unit {0}
-unfolding target shortBelow widened ambiguity smallestAt concluded smallest
-smallests = tt
+unfoldable pub open-smallest : Unit {0}
+unfolding shortBelow widened ambiguity smallestAt concluded smallest
+open-smallest = tt

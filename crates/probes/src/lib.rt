@@ -1,16 +1,21 @@
 // The probes of a smallest-radius call, from the first radius until the bracket is closed, and the fields of its answer.
 
+mod ending;
 mod probe;
 mod runs;
 mod state;
 
 use candidates::Candidate;
 use climb::Bracket;
+pub use ending::conclude;
 use grid::RadiusKm;
 use ledger::Ledger;
 use levels::SearchStats;
-use measure::Target;
 pub use runs::run;
+use share::Target;
+
+// The most radii that a run probes, and so the places that a call asks for in its ledger.
+pub const MOST_RADII: usize = 28;
 
 // The probe that fell short one kilometre below the answer.
 pub enum ShortBelow {
@@ -28,12 +33,14 @@ pub enum Ambiguity {
     Absent,
 }
 
+// How many radii were searched and how many the ledger held, and the counts of the searches.
 pub struct SmallestStats {
     pub radii_evaluated: u64,
     pub radii_reused: u64,
     pub searched: SearchStats,
 }
 
+// The smallest radius whose fullest circle reaches the target, with all that tells how sure it is.
 pub struct Smallest {
     pub radius_km: RadiusKm,
     pub centre: Candidate,

@@ -7,8 +7,9 @@ use search::MostPopulous;
 ghost use mathlib.Core.Path.{_≡_};
 ghost use Rattle.ledger.specs.Ledger.{entry};
 ghost use Rattle.probes.specs.State.{reusedMore, evaluatedMore, noted};
-ghost use Rattle.probes.specs.Probing.{CanNote, CanEvaluate};
+ghost use Rattle.probes.specs.Requires.{CanNote, CanEvaluate};
 
+// A probe whose kilometre the ledger holds.
 pub(crate) fn reused(
     persons: f64,
     slack: f64,
@@ -24,6 +25,7 @@ pub(crate) fn reused(
     crate::state::noted(persons, slack, state, km, centre, stats)
 }
 
+// A probe that searched.
 pub(crate) fn evaluated(
     persons: f64,
     slack: f64,

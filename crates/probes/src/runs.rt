@@ -1,4 +1,4 @@
-// The run: probes from the first radius until the bracket is closed. The ledger is a local of its own, so that no state copies it.
+// The run: probes from the first radius until the bracket is closed.
 use crate::RunEnd;
 use bounds::Spacing;
 use climb::Bracket;
@@ -6,30 +6,31 @@ use grid::Grid;
 use grid::RadiusKm;
 use ledger::Got;
 use ledger::Ledger;
-use measure::Target;
-ghost use mathlib.Core.Path.{_≡_};
-ghost use Rattle.levels.specs.Work.{mapOf};
-ghost use Rattle.probes.specs.Probing.{CanRun, Ran};
+use share::Target;
+ghost use Rattle.levels.specs.State.{summedMap};
+ghost use Rattle.probes.specs.Requires.{CanRun};
+ghost use Rattle.probes.specs.State.{Ran};
 
+// The run from a ledger with room for every probe. The ledger is a local beside the state, so that no probe copies it.
 pub fn run(
     grid: Grid,
     angles: &[f64],
     cosines: &[f64],
     sums: &[u64],
-    near: &mut [u64],
-    far: &mut [u64],
+    current: &mut [u64],
+    following: &mut [u64],
     spacing: Spacing,
     target: Target,
     slack: f64,
-    people: u64,
+    total: u64,
     ledger: Ledger,
 ) -> RunEnd
-    requires { ⌜ CanRun grid (now angles) (now cosines) (now sums) (now near) (now far) target slack people ledger ⌝ }
-    ensures { λ r. ⌜ Ran (mapOf grid (now (angles .entry)) (now (cosines .entry)) (now (sums .entry))) spacing (target .share) ledger r ⌝ }
+    requires { ⌜ CanRun grid (now angles) (now cosines) (now sums) (now current) (now following) target slack total ledger ⌝ }
+    ensures { λ r. ⌜ Ran (summedMap grid (now (angles .entry)) (now (cosines .entry)) (now (sums .entry))) spacing (target .share) ledger r ⌝ }
 {
     let last = RadiusKm::CEILING - 1;
     let persons = target.persons;
-    let mut state = crate::state::begun(people);
+    let mut state = crate::state::begun(total);
     let mut held = ledger;
     let mut bracket = Bracket::start();
     while !bracket.closed() {
@@ -37,7 +38,16 @@ pub fn run(
         match ledger::get(held, km) {
             Got::Circle(centre) => state = crate::probe::reused(persons, slack, state, km, centre),
             Got::Nothing => {
-                let found = search::search_at(grid, angles, cosines, sums, near, far, km, spacing);
+                let found = search::search_at(
+                    grid,
+                    angles,
+                    cosines,
+                    sums,
+                    current,
+                    following,
+                    km,
+                    spacing,
+                );
                 held = ledger::put(held, crate::probe::entry_of(km, found));
                 state = crate::probe::evaluated(persons, slack, state, km, found);
             }

@@ -4,6 +4,7 @@ use crate::RunState;
 use crate::ShortBelow;
 use crate::SmallestStats;
 use candidates::Candidate;
+use grid::Cell;
 use grid::Col;
 use grid::RadiusKm;
 use grid::Row;
@@ -12,16 +13,18 @@ ghost use mathlib.Core.Path.{_≡_};
 ghost use mathlib.Core.Bool.{cond};
 ghost use Prim.Native.Nat.{_+_, _≤_, _<_, _^_, min};
 ghost use Rattle.lists.specs.Counted.{max};
-ghost use Rattle.levels.specs.Weight.{statsWeight};
+ghost use Rattle.levels.specs.State.{statsWeight};
 ghost use Rattle.probes.specs.Smallest.{widened};
-ghost use Rattle.probes.specs.State.{begun, reusedMore, evaluatedMore, shortAfter, ambiguityAfter, noted, radiiOf};
+ghost use Rattle.probes.specs.State.{runBegun, reusedMore, evaluatedMore, shortAfter, ambiguityAfter, noted, radiiOf};
 
+// The lesser of two kilometres.
 fn lesser(a: u32, b: u32) -> u32
     ensures { λ r. ⌜ r ≡ min a b ⌝ }
 {
     if a < b { a } else { b }
 }
 
+// The greater of two kilometres.
 fn greater(a: u32, b: u32) -> u32
     ensures { λ r. ⌜ r ≡ max a b ⌝ }
 {
@@ -55,6 +58,7 @@ fn widened(ambiguity: Ambiguity, km: u32) -> Ambiguity
     }
 }
 
+// A probe within the slack widens the ambiguity, whether it reached or fell short.
 fn ambiguity_after(within: bool, ambiguity: Ambiguity, km: u32) -> Ambiguity
     requires { ⌜ radiiOf ambiguity + 1 < 2 ^ 32 ⌝ }
     ensures { λ r. ⌜ r ≡ ambiguityAfter within ambiguity km ⌝ }
@@ -65,7 +69,8 @@ fn ambiguity_after(within: bool, ambiguity: Ambiguity, km: u32) -> Ambiguity
     ambiguity
 }
 
-// A probe that fell short is the witness until another does: it is one kilometre below the lowest that is left.
+// A probe that fell short is the witness until another does. The latest stands one kilometre below the lowest radius that is left, so that at
+// the end it is one below the answer.
 fn short_after(reached: bool, short: ShortBelow, km: u32, population: u64) -> ShortBelow
     ensures { λ r. ⌜ r ≡ shortAfter reached short km population ⌝ }
 {
@@ -78,6 +83,7 @@ fn short_after(reached: bool, short: ShortBelow, km: u32, population: u64) -> Sh
     }
 }
 
+// What the lowest radius that reached has found: each that reaches is lower than those before it.
 fn found_after(reached: bool, centre: Candidate, found: Candidate) -> Candidate
     ensures { λ r. ⌜ r ≡ cond reached centre found ⌝ }
 {
@@ -87,6 +93,7 @@ fn found_after(reached: bool, centre: Candidate, found: Candidate) -> Candidate
     found
 }
 
+// One probe more that the ledger answered. It counts apart, since no search ran: the searches' counts stay.
 pub(crate) fn reused_more(stats: SmallestStats) -> SmallestStats
     requires { ⌜ stats .«radii_evaluated» + stats .«radii_reused» < 2 ^ 32 ⌝ }
     ensures { λ r. ⌜ r ≡ reusedMore stats ⌝ }
@@ -99,6 +106,7 @@ pub(crate) fn reused_more(stats: SmallestStats) -> SmallestStats
     }
 }
 
+// One probe more that searched, with its counts added.
 pub(crate) fn evaluated_more(stats: SmallestStats, search: SearchStats) -> SmallestStats
     requires { ⌜ stats .«radii_evaluated» + stats .«radii_reused» < 2 ^ 32 ⌝ }
     requires { ⌜ statsWeight (stats .searched) + statsWeight search ≤ 2 ^ 31 ⌝ }
@@ -113,27 +121,21 @@ pub(crate) fn evaluated_more(stats: SmallestStats, search: SearchStats) -> Small
     }
 }
 
-// Before the first probe.
-pub(crate) fn begun(people: u64) -> RunState
-    ensures { λ r. ⌜ r ≡ begun people ⌝ }
+// Before the first probe. Until a radius reaches, what is found is cell (0, 0) with the total: the answer where all fall short.
+pub(crate) fn begun(total: u64) -> RunState
+    ensures { λ r. ⌜ r ≡ runBegun total ⌝ }
 {
-    let searched = SearchStats {
-        levels: 0,
-        blocks_examined: 0,
-        blocks_pruned: 0,
-        circles_evaluated: 0,
-        kernels_built: 0,
-    };
+    let searched = SearchStats::of(0, 0, 0, 0, 0);
     let stats = SmallestStats {
         radii_evaluated: 0,
         radii_reused: 0,
         searched,
     };
-    let found = Candidate {
+    let north_west = Cell {
         row: Row(0),
         col: Col(0),
-        population: people,
     };
+    let found = Candidate::at(north_west, total);
     RunState {
         reached: false,
         found,
@@ -159,10 +161,10 @@ pub(crate) fn noted(
     let old_found = state.found;
     let old_short = state.short;
     let old_ambiguity = state.ambiguity;
-    let reached = measure::reaches(persons, centre);
+    let reached = share::reaches(persons, centre);
     let found = found_after(reached, centre, old_found);
     let short = short_after(reached, old_short, km, centre.population);
-    let within = measure::within_slack(persons, slack, centre);
+    let within = share::within_slack(persons, slack, centre);
     let ambiguity = ambiguity_after(within, old_ambiguity, km);
     RunState {
         reached,

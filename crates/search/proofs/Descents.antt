@@ -18,8 +18,8 @@ use Rattle.grid.specs.Map.{Map}
 use Rattle.grid.proofs.Sizes.{Sizes, grid-sizes}
 use Rattle.blocks.specs.declared.Block.{Block}
 use Rattle.blocks.specs.Block.{area, byProbe, tile, Rectangle}
-use Rattle.blocks.specs.Word.{wordOf, blocksOf, wordsByProbe, Tiled, CanTake}
-use Rattle.blocks.specs.Word as word
+use Rattle.blocks.specs.State.{wordOf, blocksOf, wordsByProbe, Tiled}
+use Rattle.blocks.specs.Requires.{Small, CanTake}
 use Rattle.blocks.proofs.Tiles.{length-area, tile-rectangle}
 use Rattle.blocks.proofs.TileWords.{tile-room}
 use Rattle.blocks.proofs.Words.{rectangle-small, blocks-onto, blocks-written, blocks-sorted}
@@ -28,23 +28,23 @@ use Rattle.candidates.specs.declared.Held.the-variants.{Nobody}
 use Rattle.levels.specs.declared.Tally.{Tally}
 use Rattle.levels.specs.declared.ChunkResult.{ChunkResult}
 use Rattle.search.specs.declared.SearchResult.{SearchResult}
-use Rattle.levels.specs.Level.{noTally, plus, plusStats, Outcome, level}
-use Rattle.search.specs.Search.{Levels, levels, searched}
-use Rattle.levels.specs.Weight.{weight, statsWeight}
-use Rattle.levels.specs.Work.{mapOf, Ready}
-use Rattle.levels.specs.Buffer.{children, CanSweep, Swept, levelOf}
-use Rattle.search.specs.Buffer.{TwoBuffers, FirstLevel, withLevel}
-use Rattle.levels.proofs.Counts.{Small, level-counts}
+use Rattle.levels.specs.Level.{noTally, plus, plusStats, Outcome, level, levelInOrder}
+use Rattle.search.specs.Search.{levels, searched}
+use Rattle.levels.specs.State.{weight, statsWeight, summedMap, children, Swept}
+use Rattle.levels.specs.Requires.{mostCells, Ready, CanSweep}
+use Rattle.search.specs.Requires.{TwoBuffers}
+use Rattle.search.specs.State.{FirstLevel, withLevel}
+use Rattle.levels.proofs.Counts.{level-counts}
 use Rattle.search.proofs.Levels.{after, Counted, blocks-fit, counted-first, counted-next, no-fuel, levels-none}
 use Rattle.search.proofs.Places.{Few, counted-few, cells-few}
 
 -- the words of rectangles on a grid that question 1 lets pass
-words-small : (g : Grid) → Sizes g → {bs : List Block} → AllOf (Rectangle g) bs → AllOf word.Small bs
+words-small : (g : Grid) → Sizes g → {bs : List Block} → AllOf (Rectangle g) bs → AllOf Small bs
 words-small g s rs = all-map (λ b r. rectangle-small g (omega (arith, s .columns)) (omega (arith, s .rows)) b r) rs
 
 -- ---- the first level
 
-module _ (g : Grid) (spacing : ℕ) (near far : List ℕ) (two : TwoBuffers g near far) where
+module _ (g : Grid) (spacing : ℕ) (current following : List ℕ) (two : TwoBuffers g current following) where
   abbrev tiles : List Block
   tiles = tile g spacing
 
@@ -54,27 +54,27 @@ module _ (g : Grid) (spacing : ℕ) (near far : List ℕ) (two : TwoBuffers g ne
   tiles-few : length tiles ≤ cells g
   tiles-few = tile-room g spacing (first-sizes .some-columns) (first-sizes .some-rows)
 
-  pub first-tiles : length tiles ≤ length far
-  first-tiles = omega (arith, tiles-few, two .far-room)
+  pub first-tiles : length tiles ≤ length following
+  first-tiles = omega (arith, tiles-few, two .following-room)
 
-  module _ (n : ℕ) (far′ : List ℕ) (tiled : Tiled far (each wordOf tiles) far′ n) where
+  module _ (n : ℕ) (following′ : List ℕ) (tiled : Tiled following (each wordOf tiles) following′ n) where
     number : n ≡ length tiles
     number = tiled .number ∙ length-each wordOf tiles
 
-    far-size : length far′ ≡ length far
-    far-size =
-        ap (length {A = ℕ}) (tiled .words) ∙ length-onto (each wordOf tiles) far (omega (arith, length-each wordOf tiles, first-tiles))
+    following-size : length following′ ≡ length following
+    following-size =
+        ap (length {A = ℕ}) (tiled .words) ∙ length-onto (each wordOf tiles) following (omega (arith, length-each wordOf tiles, first-tiles))
 
-    pub first-takes : CanTake n far′ near
-    first-takes = record { words = omega (arith, number, far-size, first-tiles); room = omega (arith, number, tiles-few, two .near-room) }
+    pub first-takes : CanTake n following′ current
+    first-takes = record { words = omega (arith, number, following-size, first-tiles); room = omega (arith, number, tiles-few, two .current-room) }
 
-    pub first-is : (near′ : List ℕ) → near′ ≡ onto (sort wordsByProbe (take n far′)) near → FirstLevel g spacing near′ n
-    first-is near′ e =
+    pub first-is : (current′ : List ℕ) → current′ ≡ onto (sort wordsByProbe (take n following′)) current → FirstLevel g spacing current′ n
+    first-is current′ e =
         let small = words-small g first-sizes (tile-rectangle g spacing (first-sizes .some-columns) (first-sizes .some-rows)) in
-        let there : blocksOf n far′ ≡ tiles = ap (λ (k : ℕ). blocksOf k far′) number ∙ ap (blocksOf (length tiles)) (tiled .words) ∙ blocks-onto tiles far small in
+        let there : blocksOf n following′ ≡ tiles = ap (λ (k : ℕ). blocksOf k following′) number ∙ ap (blocksOf (length tiles)) (tiled .words) ∙ blocks-onto tiles following small in
         record {
           number = number;
-          order = ap (blocksOf n) e ∙ blocks-sorted n far′ near (first-takes .words) ∙ ap (sort byProbe) there;
+          order = ap (blocksOf n) e ∙ blocks-sorted n following′ current (first-takes .words) ∙ ap (sort byProbe) there;
         }
 
 -- ---- counts stay small
@@ -83,7 +83,7 @@ few-light : (t : Tally) → Few t → weight t ≤ 30000000
 unfolding weight statsWeight
 few-light t f = omega (arith, f .levels, f .examined, f .pruned, f .evaluated, f .kernels, f .cells-ended)
 
-level-light : (m : Map) (km : Float) (best : Held) (bs : List Block) → AllOf (Rectangle (m .globe .grid)) bs → total area bs ≤ 16200
+level-light : (m : Map) (km : Float) (best : Held) (bs : List Block) → AllOf (Rectangle (m .globe .grid)) bs → total area bs ≤ mostCells
     → weight (level m km best bs .tally) ≤ 100000
 unfolding weight statsWeight
 level-light m km best bs rs h =
@@ -92,53 +92,50 @@ level-light m km best bs rs h =
 
 -- ---- one level more
 
-levels-step : (fuel : ℕ) (m : Map) (km : Float) (s : Levels) (bs : List Block) → 0 < length bs
+levels-step : (fuel : ℕ) (m : Map) (km : Float) (s : SearchResult) (bs : List Block) → 0 < length bs
     → levels (suc fuel) m km s bs ≡ levels fuel m km (after m km s bs) (children (level m km (s .held) bs))
 unfolding levels
 levels-step fuel m km s [] h = absurd (omega arith)
 levels-step fuel m km s (b ∷ bs) h = refl
 
-level-sorted : (m : Map) (km : Float) (best : Held) (bs sorted : List Block) → sorted ≡ sort byProbe bs → levelOf m km best sorted ≡ level m km best bs
-unfolding levelOf level
+level-sorted : (m : Map) (km : Float) (best : Held) (bs sorted : List Block) → sorted ≡ sort byProbe bs → levelInOrder m km best sorted ≡ level m km best bs
+unfolding levelInOrder level
 level-sorted m km best bs sorted e = rw e
 
 -- ---- the loop
 
-module _ (gr : Grid) (angles cosines : List Float) (sums : List ℕ) (km : Float) (spacing : ℕ) (near₀ far₀ : List ℕ) where
+module _ (gr : Grid) (angles cosines : List Float) (sums : List ℕ) (km : Float) (spacing : ℕ) (current₀ following₀ : List ℕ) where
   abbrev the-map : Map
-  the-map = mapOf gr angles cosines sums
+  the-map = summedMap gr angles cosines sums
 
-  abbrev levelsOf : SearchResult → Levels
-  levelsOf found = record { held = found .held; tally = found .tally }
-
-  pub record Descending (near far : List ℕ) (live : ℕ) (found : SearchResult) : Type 0 where
-    pub near-size : length near ≡ length near₀
-    pub far-size : length far ≡ length far₀
-    pub near-room : cells gr ≤ length near
-    pub far-room : cells gr ≤ length far
+  pub record Descending (current following : List ℕ) (live : ℕ) (found : SearchResult) : Type 0 where
+    pub current-size : length current ≡ length current₀
+    pub following-size : length following ≡ length following₀
+    pub current-room : cells gr ≤ length current
+    pub following-room : cells gr ≤ length following
     pub left : List Block
     pub fuel : ℕ
     pub number : live ≡ length left
-    pub order : blocksOf live near ≡ sort byProbe left
+    pub order : blocksOf live current ≡ sort byProbe left
     pub counted : Counted gr fuel (found .tally) left
-    pub whole : levels fuel the-map km (levelsOf found) left ≡ searched the-map km spacing
+    pub whole : levels fuel the-map km found left ≡ searched the-map km spacing
 
   module _ (t : Ready gr angles cosines sums) where
     s : Sizes gr
     s = grid-sizes gr (t .sizes)
 
-    few-cells : cells gr ≤ 16200
+    few-cells : cells gr ≤ mostCells
     few-cells = cells-few gr s
 
-    pub descend-start : cells gr ≤ length near₀ → cells gr ≤ length far₀ → (n : ℕ) → FirstLevel gr spacing near₀ n
-        → Descending near₀ far₀ n (record { held = Nobody; tally = noTally })
+    pub descend-start : cells gr ≤ length current₀ → cells gr ≤ length following₀ → (n : ℕ) → FirstLevel gr spacing current₀ n
+        → Descending current₀ following₀ n (record { held = Nobody; tally = noTally })
     unfolding searched
     descend-start p q n f =
         record {
-          near-size = refl;
-          far-size = refl;
-          near-room = p;
-          far-room = q;
+          current-size = refl;
+          following-size = refl;
+          current-room = p;
+          following-room = q;
           left = tile gr spacing;
           fuel = gr .width + gr .height;
           number = f .number;
@@ -147,34 +144,34 @@ module _ (gr : Grid) (angles cosines : List Float) (sums : List ℕ) (km : Float
           whole = refl;
         }
 
-    module _ (near far : List ℕ) (live : ℕ) (found : SearchResult) (d : Descending near far live found) where
+    module _ (current following : List ℕ) (live : ℕ) (found : SearchResult) (d : Descending current following live found) where
       all : AllOf (Rectangle gr) (d .left)
       all = all-map (λ b x. x .rectangle) (d .counted .small)
 
       area-few : total area (d .left) ≤ cells gr
       area-few = omega (arith, d .counted .cells-all)
 
-      pub descend-words : live ≤ length near
-      descend-words = omega (arith, d .number, blocks-fit gr (d .fuel) (found .tally) (d .left) (d .counted), d .near-room)
+      pub descend-words : live ≤ length current
+      descend-words = omega (arith, d .number, blocks-fit gr (d .fuel) (found .tally) (d .left) (d .counted), d .current-room)
 
-      pub descend-sweeps : CanSweep gr (blocksOf live near) far 0
+      pub descend-sweeps : CanSweep gr (blocksOf live current) following 0
       descend-sweeps =
           rw (d .order)
           (record {
             rectangles = all-sort byProbe (d .left) all;
             narrow = omega (arith, total-sort byProbe area (d .left), area-few, few-cells);
-            room = omega (arith, total-sort byProbe area (d .left), area-few, d .far-room);
+            room = omega (arith, total-sort byProbe area (d .left), area-few, d .following-room);
           })
 
-      module _ (some : 0 < live) (r : ChunkResult) (far′ : List ℕ) (swept : Swept (levelOf the-map km (found .held) (blocksOf live near)) far 0 far′ r) where
+      module _ (some : 0 < live) (r : ChunkResult) (following′ : List ℕ) (swept : Swept (levelInOrder the-map km (found .held) (blocksOf live current)) following 0 following′ r) where
         abbrev o : Outcome
         o = level the-map km (found .held) (d .left)
 
-        is : levelOf the-map km (found .held) (blocksOf live near) ≡ o
-        is = level-sorted the-map km (found .held) (d .left) (blocksOf live near) (d .order)
+        is : levelInOrder the-map km (found .held) (blocksOf live current) ≡ o
+        is = level-sorted the-map km (found .held) (d .left) (blocksOf live current) (d .order)
 
-        outcome : Swept o far 0 far′ r
-        outcome = subst (λ (x : Outcome). Swept x far 0 far′ r) is swept
+        outcome : Swept o following 0 following′ r
+        outcome = subst (λ (x : Outcome). Swept x following 0 following′ r) is swept
 
         pub descend-light : weight (found .tally) + weight (r .tally) ≤ 2 ^ 31
         descend-light =
@@ -210,9 +207,9 @@ module _ (gr : Grid) (angles cosines : List Float) (sums : List ℕ) (km : Float
         live-few : r .live ≤ cells gr
         live-few = omega (arith, live-is, blocks-fit gr fewer (plus (found .tally) (o .tally)) (children o) counted-after)
 
-        module _ (kept : length far′ ≡ length far) where
-          pub descend-takes : CanTake (r .live) far′ near
-          descend-takes = record { words = omega (arith, live-few, d .far-room); room = omega (arith, live-few, d .near-room) }
+        module _ (kept : length following′ ≡ length following) where
+          pub descend-takes : CanTake (r .live) following′ current
+          descend-takes = record { words = omega (arith, live-few, d .following-room); room = omega (arith, live-few, d .current-room) }
 
           pub descend-less : gr .width + gr .height - withLevel found r .tally .stats .levels < gr .width + gr .height - found .tally .stats .levels
           unfolding withLevel plus plusStats
@@ -225,34 +222,34 @@ module _ (gr : Grid) (angles cosines : List Float) (sums : List ℕ) (km : Float
                 fuel-is,
               ))
 
-          pub descend-next : (near′ : List ℕ) → length near′ ≡ length near → near′ ≡ onto (sort wordsByProbe (take (r .live) far′)) near
-              → Descending near′ far′ (r .live) (withLevel found r)
+          pub descend-next : (current′ : List ℕ) → length current′ ≡ length current → current′ ≡ onto (sort wordsByProbe (take (r .live) following′)) current
+              → Descending current′ following′ (r .live) (withLevel found r)
           unfolding withLevel blocksOf each
-          descend-next near′ same e =
+          descend-next current′ same e =
               let small = words-small gr s (all-map (λ b x. x .rectangle) (counted-after .small)) in
               let k-is : r .live ≡ 0 + length (children o) = omega (arith, live-is) in
-              let there : blocksOf (r .live) far′ ≡ children o =
-              ap (λ (k : ℕ). blocksOf k far′) k-is ∙ ap (blocksOf (0 + length (children o))) (outcome .written .words)
-              ∙ blocks-written 0 (children o) far small (omega arith) in
+              let there : blocksOf (r .live) following′ ≡ children o =
+              ap (λ (k : ℕ). blocksOf k following′) k-is ∙ ap (blocksOf (0 + length (children o))) (outcome .written .words)
+              ∙ blocks-written 0 (children o) following small (omega arith) in
               record {
-                near-size = same ∙ d .near-size;
-                far-size = kept ∙ d .far-size;
-                near-room = omega (arith, d .near-room);
-                far-room = omega (arith, d .far-room);
+                current-size = same ∙ d .current-size;
+                following-size = kept ∙ d .following-size;
+                current-room = omega (arith, d .current-room);
+                following-room = omega (arith, d .following-room);
                 left = children o;
                 fuel = fewer;
                 number = live-is;
-                order = ap (blocksOf (r .live)) e ∙ blocks-sorted (r .live) far′ near (descend-takes .words) ∙ ap (sort byProbe) there;
+                order = ap (blocksOf (r .live)) e ∙ blocks-sorted (r .live) following′ current (descend-takes .words) ∙ ap (sort byProbe) there;
                 counted = rw (outcome .counts) counted-after;
                 whole =
                     rw (outcome .counts, outcome .held)
-                    (sym (levels-step fewer the-map km (levelsOf found) (d .left) some-left)
-                    ∙ ap (λ (n : ℕ). levels n the-map km (levelsOf found) (d .left)) (sym fuel-is) ∙ d .whole);
+                    (sym (levels-step fewer the-map km found (d .left) some-left)
+                    ∙ ap (λ (n : ℕ). levels n the-map km found (d .left)) (sym fuel-is) ∙ d .whole);
               }
 
-      pub descend-done : live ≤ 0 → levelsOf found ≡ searched the-map km spacing
+      pub descend-done : live ≤ 0 → found ≡ searched the-map km spacing
       descend-done h =
-          sym (levels-none (d .fuel) the-map km (levelsOf found)) ∙ ap (levels (d .fuel) the-map km (levelsOf found)) (sym (nothing-left (d .left) (omega (arith, d .number))))
+          sym (levels-none (d .fuel) the-map km found) ∙ ap (levels (d .fuel) the-map km found) (sym (nothing-left (d .left) (omega (arith, d .number))))
           ∙ d .whole
         where
           nothing-left : (bs : List Block) → length bs ≡ 0 → bs ≡ []

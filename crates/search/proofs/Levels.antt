@@ -23,27 +23,28 @@ use Rattle.search.specs.Best.{BestOf}
 use Rattle.blocks.specs.Block.{area, tile, Rectangle, Holds}
 use Rattle.candidates.specs.Candidate.{centreOf, candidate}
 use Rattle.levels.specs.Level.{noTally, noStats, plus, plusStats, level}
-use Rattle.search.specs.Search.{Levels, levels, searched}
+use Rattle.search.specs.declared.SearchResult.{SearchResult}
+use Rattle.search.specs.Search.{levels, searched}
 use Rattle.bounds.proofs.Bounds.{Bounded}
 use Rattle.grid.proofs.CellOrder.{of-on-grid}
 use Rattle.candidates.proofs.Order.{_≼_, fewer, later, equal, OfHeld}
 use Rattle.blocks.proofs.Tiles.{tile-area, tile-cover, tile-rectangle, length-area}
 use Rattle.levels.proofs.Rule.{begun}
-use Rattle.levels.proofs.Counts.{Small, rectangle-small, next, ended, decided, level-counts}
+use Rattle.levels.proofs.Counts.{Splits, rectangle-splits, next, ended, decided, level-counts}
 use Rattle.levels.proofs.Finds.{Circle, Found, Step, level-step}
 
 -- ---- the induction
 
 -- what is held and counted after a level of the blocks bs
-abbrev pub after : Map → Float → Levels → List Block → Levels
+abbrev pub after : Map → Float → SearchResult → List Block → SearchResult
 after m km s bs = record { held = level m km (s .held) bs .held; tally = plus (s .tally) (level m km (s .held) bs .tally) }
 
 -- I n s bs: before a level of the blocks bs, with n levels to go. What every level keeps, where a block is never left without a level,
 -- holds at the end, with no block left.
-pub levels-rule : (m : Map) (km : Float) (I : ℕ → Levels → List Block → Type 0)
-    → ((n : ℕ) (s : Levels) (bs : List Block) → I (suc n) s bs → I n (after m km s bs) (next (level m km (s .held) bs)))
-    → ((s : Levels) (b : Block) (bs : List Block) → I 0 s (b ∷ bs) → ⊥)
-    → (n : ℕ) (s : Levels) (bs : List Block) → I n s bs → (k : ℕ) × I k (levels n m km s bs) []
+pub levels-rule : (m : Map) (km : Float) (I : ℕ → SearchResult → List Block → Type 0)
+    → ((n : ℕ) (s : SearchResult) (bs : List Block) → I (suc n) s bs → I n (after m km s bs) (next (level m km (s .held) bs)))
+    → ((s : SearchResult) (b : Block) (bs : List Block) → I 0 s (b ∷ bs) → ⊥)
+    → (n : ℕ) (s : SearchResult) (bs : List Block) → I n s bs → (k : ℕ) × I k (levels n m km s bs) []
 unfolding levels
 levels-rule m km I step fuelled zero s [] i = (0, i)
 levels-rule m km I step fuelled zero s (b ∷ bs) i = absurd (fuelled s b bs i)
@@ -55,14 +56,14 @@ levels-rule m km I step fuelled (suc n) s (b ∷ bs) i =
 
 -- before a level: width + height levels are enough, the cells add up, and every count is within the levels times the cells
 pub record Counted (g : Grid) (n : ℕ) (t : Tally) (bs : List Block) : Type 0 where
-  pub small : AllOf (Small g n) bs
+  pub small : AllOf (Splits g n) bs
   pub cells-all : ended t + total area bs ≡ cells g
   pub levels-all : t .stats .levels + n ≡ g .width + g .height
   pub either : decided t ≡ t .stats .«blocks_examined»
   pub examined : t .stats .«blocks_examined» ≤ t .stats .levels * cells g
   pub kernels : t .stats .«kernels_built» ≤ t .stats .levels * (2 * cells g + 8)
 
-rectangles : {g : Grid} {n : ℕ} {bs : List Block} → AllOf (Small g n) bs → AllOf (Rectangle g) bs
+rectangles : {g : Grid} {n : ℕ} {bs : List Block} → AllOf (Splits g n) bs → AllOf (Rectangle g) bs
 rectangles a = all-map (λ b s. s .rectangle) a
 
 -- a level has at most as many blocks as the grid has cells, so that its buffer has room
@@ -73,7 +74,7 @@ pub counted-first : (g : Grid) (spacing : ℕ) → 1 ≤ g .width → 1 ≤ g .h
 unfolding noTally noStats
 counted-first g spacing w h =
     record {
-      small = all-map (rectangle-small g) (tile-rectangle g spacing w h);
+      small = all-map (rectangle-splits g) (tile-rectangle g spacing w h);
       cells-all = omega (arith, tile-area g spacing w h);
       levels-all = omega arith;
       either = refl;
@@ -105,25 +106,13 @@ counted-next m km best n t bs i =
 pub no-fuel : (g : Grid) (t : Tally) (b : Block) (bs : List Block) → Counted g 0 t (b ∷ bs) → ⊥
 no-fuel g t b bs i = go (i .small)
   where
-    go : AllOf (Small g 0) (b ∷ bs) → ⊥
+    go : AllOf (Splits g 0) (b ∷ bs) → ⊥
     go (also s a) = omega (arith, s .short)
 
-pub levels-none : (n : ℕ) (m : Map) (km : Float) (s : Levels) → levels n m km s [] ≡ s
+pub levels-none : (n : ℕ) (m : Map) (km : Float) (s : SearchResult) → levels n m km s [] ≡ s
 unfolding levels
 levels-none zero m km s = refl
 levels-none (suc n) m km s = refl
-
--- more levels than are enough change nothing
-pub levels-enough : (m : Map) (km : Float) (n k : ℕ) (s : Levels) (bs : List Block) → n ≤ k → Counted (m .globe .grid) n (s .tally) bs
-    → levels k m km s bs ≡ levels n m km s bs
-unfolding levels
-levels-enough m km zero k s [] h i = levels-none k m km s
-levels-enough m km zero k s (b ∷ bs) h i = absurd (no-fuel (m .globe .grid) (s .tally) b bs i)
-levels-enough m km (suc n) zero s bs h i = absurd (omega arith)
-levels-enough m km (suc n) (suc k) s [] h i = refl
-levels-enough m km (suc n) (suc k) s (b ∷ bs) h i =
-    levels-enough m km n k (after m km s (b ∷ bs)) (next (level m km (s .held) (b ∷ bs))) (omega arith)
-    (counted-next m km (s .held) n (s .tally) (b ∷ bs) i)
 
 -- the counts of a whole search
 pub record Tallied (g : Grid) (t : Tally) : Type 0 where
@@ -154,24 +143,15 @@ searched-tallied m km spacing w h =
     (g .width + g .height) (record { held = Nobody; tally = noTally }) (tile g spacing) (counted-first g spacing w h) in
     tallied-end g k (searched m km spacing .tally) i
 
--- a search does not end for want of levels
-pub searched-enough : (m : Map) (km : Float) (spacing k : ℕ) → 1 ≤ m .globe .grid .width → 1 ≤ m .globe .grid .height
-    → m .globe .grid .width + m .globe .grid .height ≤ k
-    → levels k m km (record { held = Nobody; tally = noTally }) (tile (m .globe .grid) spacing) ≡ searched m km spacing
-unfolding searched
-searched-enough m km spacing k w h l =
-    let g = m .globe .grid in
-    levels-enough m km (g .width + g .height) k (record { held = Nobody; tally = noTally }) (tile g spacing) l (counted-first g spacing w h)
-
 -- ---- the best circle
 
 -- before a level: what is held is a circle, and each cell of the grid is at most that or in a block
-pub record Finding (m : Map) (km : Float) (n : ℕ) (s : Levels) (bs : List Block) : Type 0 where
+pub record Finding (m : Map) (km : Float) (n : ℕ) (s : SearchResult) (bs : List Block) : Type 0 where
   pub counted : Counted (m .globe .grid) n (s .tally) bs
   pub circle : OfHeld (Circle m km) (s .held)
   pub found : (x : Cell) → T (onGrid (m .globe .grid) x) → Found m km x (s .held) bs
 
-pub finding-next : (m : Map) (km : Float) → Bounded m km → (n : ℕ) (s : Levels) (bs : List Block) → Finding m km (suc n) s bs
+pub finding-next : (m : Map) (km : Float) → Bounded m km → (n : ℕ) (s : SearchResult) (bs : List Block) → Finding m km (suc n) s bs
     → Finding m km n (after m km s bs) (next (level m km (s .held) bs))
 finding-next m km bounded n s bs i =
     record {

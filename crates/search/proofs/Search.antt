@@ -22,7 +22,8 @@ use Rattle.candidates.specs.declared.Held.the-variants.{Best}
 use Rattle.search.specs.declared.MostPopulous.{MostPopulous}
 use Rattle.search.specs.Best.{BestOf}
 use Rattle.candidates.specs.Candidate.{centreOf, northWest}
-use Rattle.search.specs.Search.{Levels, searched, heldOr, mostPopulous, search}
+use Rattle.search.specs.declared.SearchResult.{SearchResult}
+use Rattle.search.specs.Search.{searched, heldOr, mostPopulous, search}
 use Rattle.search.proofs.Levels.{searched-best, Tallied, searched-tallied}
 
 -- the best circle at a radius, with its population; and above radius 0 every cell pruned or settled
@@ -68,7 +69,7 @@ module _ (m : Map) (spacing : Spacing) where
       }
 
   -- what a search above radius 0 is made of
-  abbrev pub found : ℕ → Levels
+  abbrev pub found : ℕ → SearchResult
   found km = searched m (whole km) (spacingOf (m .globe .grid) (whole km) spacing)
 
   pub search-is : (km : ℕ) → 1 ≤ km → search m spacing km ≡ mostPopulous km (heldOr (northWest 0) (found km .held)) (found km .tally)

@@ -2,4 +2,5 @@ pub mod Best
 pub mod Search
 pub mod Call
 pub mod Ring
-pub mod Buffer
+pub mod State
+pub mod Requires

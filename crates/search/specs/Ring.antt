@@ -1,24 +1,23 @@
--- The ring of four cells of document 01, and its marked facts about the search.
+-- The ring of four cells of SPECIFICATION, section 9, and its marked facts about the search.
 use Prim.Native.Nat.{ℕ}
 use mathlib.Core.Path.{_≡_}
-use mathlib.Core.Bool.{true, false}
-use mathlib.Core.List.{List, [], _∷_}
-use lib.ListN.{replicate}
-use lib.IntN.{pos}
-use lib.Ieee.{Float, fin}
+use mathlib.Core.List.{[], _∷_}
 use Rattle.floats.specs.Binary.{whole, decimal}
-use Rattle.grid.specs.declared.Grid.{Grid}
-use Rattle.grid.specs.Grid.{cell}
-use Rattle.grid.specs.Map.{Globe, Map}
+use Rattle.grid.specs.Map.{Map, Globe}
+use Rattle.search.specs.declared.MostPopulous.{MostPopulous}
+use Rattle.candidates.specs.Candidate.{northWest, candidateOf}
+use Rattle.levels.specs.Level.{noTally, stats, tally}
 use Rattle.grid.specs.Answer.{firstNo, Answer, answered}
 use Rattle.grid.specs.Questions.{mapQuestions}
-use Rattle.search.specs.declared.MostPopulous.{MostPopulous}
+use mathlib.Core.Bool.{true, false}
+use lib.ListN.{replicate}
+use lib.IntN.{pos}
+use lib.Ieee.{fin}
+use Rattle.grid.specs.Grid.{cell}
 use Rattle.bounds.specs.declared.Spacing.the-variants.{Cells}
-use Rattle.candidates.specs.Candidate.{candidateOf, northWest}
-use Rattle.levels.specs.Level.{stats, tally, noTally}
-use Rattle.search.specs.Search.{mostPopulous}
 use Rattle.bounds.specs.Spacing.{initialSpacing}
-use Rattle.search.specs.Call.{Buffers, searchCall}
+use Rattle.search.specs.Search.{mostPopulous}
+use Rattle.search.specs.Call.{Buffers, buffers, searchCall}
 
 -- G 4 1 45.0 90.0 -90.0, offset 1 a quarter turn, offset 2 half a turn, cosine 1
 unfoldable pub ringGlobe : Globe
@@ -35,6 +34,7 @@ ringGlobe =
       cosines = whole 1 ∷ [];
     }
 
+-- 5, 1, 7 and 3 people
 unfoldable pub ring : Map
 ring = record { globe = ringGlobe; counts = 5 ∷ 1 ∷ 7 ∷ 3 ∷ [] }
 
@@ -44,12 +44,13 @@ emptyRing = record { globe = ringGlobe; counts = 0 ∷ 0 ∷ 0 ∷ 0 ∷ [] }
 
 -- lent buffers of just the sizes that question 7 asks for
 unfoldable pub ringBuffers : Buffers
-ringBuffers = record { sums = replicate 10 0; near = replicate 4 0; far = replicate 4 0 }
+ringBuffers = buffers (replicate 10 0) (replicate 4 0) (replicate 4 0)
 
 -- a search of the ring with spacing 4
 unfoldable pub ringSearch : ℕ → Answer MostPopulous
 ringSearch km = searchCall ring (Cells 4) km ringBuffers .answer
 
+-- what is marked of searches of the ring
 pub record RingSearches : Type 0 where
   pub accepted : firstNo (mapQuestions ring) ≡ 0
   -- the line `most`: 10,008 km, cell (0, 3), 15 people, 3 levels, 7 examined, 2 pruned, 5 evaluated, 17 kernels, 2 cells pruned, 2 settled
@@ -65,7 +66,7 @@ pub record RingSearches : Type 0 where
   pub spacing-10008 : initialSpacing (ringGlobe .grid) (whole 10008) ≡ 1
   pub spacing-20016 : initialSpacing (ringGlobe .grid) (whole 20016) ≡ 4
 
--- opens the ring, for facts that are computed
-unfoldable pub rings : Unit {0}
+-- opens all of the above, for facts that are computed
+unfoldable pub open-rings : Unit {0}
 unfolding ringGlobe ring emptyRing ringBuffers ringSearch
-rings = tt
+open-rings = tt

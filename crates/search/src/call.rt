@@ -6,32 +6,37 @@ use crate::descend;
 use bounds::Spacing;
 use candidates::Candidate;
 use candidates::Held;
+use grid::Cell;
 use grid::Col;
 use grid::Grid;
 use grid::RadiusKm;
 use grid::Row;
 ghost use mathlib.Core.Path.{_≡_};
-ghost use Rattle.grid.specs.Answer.{firstNo, shown};
+ghost use Rattle.grid.specs.Answer.{firstNo};
+ghost use Rattle.grid.specs.Map.{lentMap};
 ghost use Rattle.candidates.specs.Candidate.{northWest};
 ghost use Rattle.search.specs.Search.{heldOr, mostPopulous, search};
-ghost use Rattle.search.specs.Call.{buffersFit, searchQuestions, searchAnswer, searchCall};
-ghost use Rattle.levels.specs.Work.{mapOf};
-ghost use Rattle.search.specs.Buffer.{CanSearch};
+ghost use Rattle.search.specs.Call.{buffers, buffersFit, searchQuestions, searchCall, searchGave};
+ghost use Rattle.levels.specs.State.{summedMap};
+ghost use Rattle.search.specs.Requires.{CanSearch};
 
 // What is held, or the cell (0, 0) with nobody.
 fn held_or_north_west(held: Held) -> Candidate
     ensures { λ r. ⌜ r ≡ heldOr (northWest 0) held ⌝ }
 {
     match held {
-        Held::Nobody => Candidate {
-            row: Row(0),
-            col: Col(0),
-            population: 0,
-        },
+        Held::Nobody => Candidate::at(
+            Cell {
+                row: Row(0),
+                col: Col(0),
+            },
+            0,
+        ),
         Held::Best(c) => c,
     }
 }
 
+// What the levels found, with its radius: the cell (0, 0) with nobody where nothing is held.
 fn answer_of(found: SearchResult, km: u32) -> MostPopulous
     ensures { λ r. ⌜ r ≡ mostPopulous km (heldOr (northWest 0) (found .held)) (found .tally) ⌝ }
 {
@@ -52,13 +57,13 @@ pub fn search_at(
     angles: &[f64],
     cosines: &[f64],
     sums: &[u64],
-    near: &mut [u64],
-    far: &mut [u64],
+    current: &mut [u64],
+    following: &mut [u64],
     km: u32,
     spacing: Spacing,
 ) -> MostPopulous
-    requires { ⌜ CanSearch grid (now angles) (now cosines) (now sums) (now near) (now far) ⌝ }
-    ensures { λ r. ⌜ r ≡ search (mapOf grid (now (angles .entry)) (now (cosines .entry)) (now (sums .entry))) spacing km ⌝ }
+    requires { ⌜ CanSearch grid (now angles) (now cosines) (now sums) (now current) (now following) ⌝ }
+    ensures { λ r. ⌜ r ≡ search (summedMap grid (now (angles .entry)) (now (cosines .entry)) (now (sums .entry))) spacing km ⌝ }
 {
     if km == 0 {
         let none = descend::nothing();
@@ -66,22 +71,31 @@ pub fn search_at(
     }
     let radius = km as f64;
     let side = bounds::spacing_of(grid, radius, spacing);
-    let found = descend::searched(grid, angles, cosines, sums, radius, side, near, far);
+    let found = descend::searched(
+        grid,
+        angles,
+        cosines,
+        sums,
+        radius,
+        side,
+        current,
+        following,
+    );
     answer_of(found, km)
 }
 
-// Question 7.
-pub fn buffers_fit(grid: Grid, sums: &[u64], near: &[u64], far: &[u64]) -> bool
-    ensures { λ r. ⌜ r ≡ buffersFit grid (record { sums = now (sums .entry); near = now (near .entry); far = now (far .entry) }) ⌝ }
+// Question 7: room for the sums, and a word for each cell in both level buffers.
+pub fn buffers_fit(grid: Grid, sums: &[u64], current: &[u64], following: &[u64]) -> bool
+    ensures { λ r. ⌜ r ≡ buffersFit grid (buffers (now (sums .entry)) (now (current .entry)) (now (following .entry))) ⌝ }
 {
-    if !table::sums_fit(grid, sums) {
+    if !sums::sums_fit(grid, sums) {
         return false;
     }
     let cells = grid::cells(grid);
-    if (near.len() as u64) < cells {
+    if (current.len() as u64) < cells {
         return false;
     }
-    cells <= far.len() as u64
+    cells <= following.len() as u64
 }
 
 // The number of the first question of the call that is answered no, or 0.
@@ -93,16 +107,18 @@ fn search_refusal(
     km: u32,
     spacing: Spacing,
     sums: &[u64],
-    near: &[u64],
-    far: &[u64],
+    current: &[u64],
+    following: &[u64],
 ) -> u32
-    ensures { λ r. ⌜ r ≡ firstNo (searchQuestions (record { globe = record { grid = grid; angles = now (angles .entry); cosines = now (cosines .entry) }; counts = now (counts .entry) }) spacing km (record { sums = now (sums .entry); near = now (near .entry); far = now (far .entry) })) ⌝ }
+    ensures { λ r. ⌜ r ≡ firstNo (searchQuestions
+        (lentMap grid (now (counts .entry)) (now (angles .entry)) (now (cosines .entry))) spacing km
+        (buffers (now (sums .entry)) (now (current .entry)) (now (following .entry)))) ⌝ }
 {
     let refusal = grid::map_refusal(grid, counts, angles, cosines);
     if refusal != 0 {
         return refusal;
     }
-    if !buffers_fit(grid, sums, near, far) {
+    if !buffers_fit(grid, sums, current, following) {
         return 7;
     }
     if !kernel::radius_in_range(grid, km) {
@@ -114,6 +130,8 @@ fn search_refusal(
     0
 }
 
+// The search call: its questions first, in their order; a refusal changes nothing that was lent. Otherwise the sums are filled, also at
+// radius 0, and the search is made.
 pub fn most_populous(
     grid: Grid,
     counts: &[u32],
@@ -122,19 +140,28 @@ pub fn most_populous(
     km: u32,
     spacing: Spacing,
     sums: &mut [u64],
-    near: &mut [u64],
-    far: &mut [u64],
+    current: &mut [u64],
+    following: &mut [u64],
 ) -> SearchAnswer
-    ensures { λ r. ⌜ record {
-      answer = searchAnswer r;
-      lent = record { sums = now (sums .exit); near = shown (searchAnswer r) (now (near .exit)); far = shown (searchAnswer r) (now (far .exit)) };
-    } ≡ searchCall (record { globe = record { grid = grid; angles = now (angles .entry); cosines = now (cosines .entry) }; counts = now (counts .entry) }) spacing km (record { sums = now (sums .entry); near = now (near .entry); far = now (far .entry) }) ⌝ }
+    ensures { λ r. ⌜ searchGave r (now (sums .exit)) (now (current .exit)) (now (following .exit)) ≡ searchCall
+        (lentMap grid (now (counts .entry)) (now (angles .entry)) (now (cosines .entry))) spacing km
+        (buffers (now (sums .entry)) (now (current .entry)) (now (following .entry))) ⌝ }
 {
-    let refusal = search_refusal(grid, counts, angles, cosines, km, spacing, sums, near, far);
+    let refusal = search_refusal(
+        grid,
+        counts,
+        angles,
+        cosines,
+        km,
+        spacing,
+        sums,
+        current,
+        following,
+    );
     if refusal != 0 {
         return SearchAnswer::Refused(refusal);
     }
-    table::fill_sums(grid, counts, sums);
-    let found = search_at(grid, angles, cosines, sums, near, far, km, spacing);
+    sums::fill_sums(grid, counts, sums);
+    let found = search_at(grid, angles, cosines, sums, current, following, km, spacing);
     SearchAnswer::Found(found)
 }

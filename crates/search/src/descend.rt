@@ -8,39 +8,30 @@ use levels::Tally;
 ghost use mathlib.Core.Path.{_≡_};
 ghost use Prim.Native.Nat.{_+_, _≤_, _^_};
 ghost use Rattle.levels.specs.Level.{noTally};
-ghost use Rattle.levels.specs.Weight.{weight};
-ghost use Rattle.search.specs.Search.{Levels, searched};
-ghost use Rattle.levels.specs.Work.{mapOf, Ready};
-ghost use Rattle.search.specs.Buffer.{TwoBuffers, FirstLevel, withLevel};
+ghost use Rattle.levels.specs.State.{weight, summedMap};
+ghost use Rattle.search.specs.Search.{searched};
+ghost use Rattle.levels.specs.Requires.{Ready};
+ghost use Rattle.search.specs.Requires.{TwoBuffers};
+ghost use Rattle.search.specs.State.{FirstLevel, withLevel};
 ghost use Rattle.candidates.specs.declared.Held.the-variants.{Nobody};
 
 // Nothing held and nothing counted.
 pub(crate) fn nothing() -> SearchResult
     ensures { λ r. ⌜ r ≡ record { held = Nobody; tally = noTally } ⌝ }
 {
-    let stats = SearchStats {
-        levels: 0,
-        blocks_examined: 0,
-        blocks_pruned: 0,
-        circles_evaluated: 0,
-        kernels_built: 0,
-    };
-    let tally = Tally {
-        stats,
-        cells_pruned: 0,
-        cells_settled: 0,
-    };
+    let stats = SearchStats::of(0, 0, 0, 0, 0);
+    let tally = Tally::of(stats, 0, 0);
     let held = Held::Nobody;
     SearchResult { held, tally }
 }
 
 // The grid's first blocks in probe order, and how many they are.
-fn first_level(grid: Grid, spacing: u32, near: &mut [u64], far: &mut [u64]) -> usize
-    requires { ⌜ TwoBuffers grid (now near) (now far) ⌝ }
-    ensures { λ r. ⌜ FirstLevel grid spacing (now (near .exit)) r ⌝ }
+fn first_level(grid: Grid, spacing: u32, current: &mut [u64], following: &mut [u64]) -> usize
+    requires { ⌜ TwoBuffers grid (now current) (now following) ⌝ }
+    ensures { λ r. ⌜ FirstLevel grid spacing (now (current .exit)) r ⌝ }
 {
-    let n = blocks::tile(grid, spacing, far);
-    blocks::insert_from(far, n, near);
+    let n = blocks::tile(grid, spacing, following);
+    blocks::insert_from(following, n, current);
     n
 }
 
@@ -56,6 +47,8 @@ fn with_level(found: SearchResult, level: ChunkResult) -> SearchResult
     SearchResult { held, tally }
 }
 
+// Level after level, the survivors split into their children, until no block is left. Every cell is pruned with its block or evaluated as
+// a block by itself: so, where bounds hold, the spacing changes the counts and never the answer.
 pub(crate) fn searched(
     grid: Grid,
     angles: &[f64],
@@ -63,21 +56,31 @@ pub(crate) fn searched(
     sums: &[u64],
     km: f64,
     spacing: u32,
-    near: &mut [u64],
-    far: &mut [u64],
+    current: &mut [u64],
+    following: &mut [u64],
 ) -> SearchResult
     requires { ⌜ Ready grid (now angles) (now cosines) (now sums) ⌝ }
-    requires { ⌜ TwoBuffers grid (now near) (now far) ⌝ }
-    ensures { λ r. ⌜ record { held = r .held; tally = r .tally } ≡ searched (mapOf grid (now (angles .entry)) (now (cosines .entry)) (now (sums .entry))) km spacing ⌝ }
+    requires { ⌜ TwoBuffers grid (now current) (now following) ⌝ }
+    ensures { λ r. ⌜ r ≡ searched (summedMap grid (now (angles .entry)) (now (cosines .entry)) (now (sums .entry))) km spacing ⌝ }
 {
-    let mut live = first_level(grid, spacing, near, far);
+    let mut live = first_level(grid, spacing, current, following);
     let mut found = nothing();
     while 0 < live {
         let best = found.held;
-        let level = levels::level(grid, angles, cosines, sums, near, live, km, best, far);
+        let level = levels::level(
+            grid,
+            angles,
+            cosines,
+            sums,
+            current,
+            live,
+            km,
+            best,
+            following,
+        );
         found = with_level(found, level);
         live = level.live;
-        blocks::insert_from(far, live, near);
+        blocks::insert_from(following, live, current);
     }
     found
 }

@@ -16,6 +16,8 @@ pub struct SearchResult {
     pub tally: Tally,
 }
 
+// The best circle of a radius, and the counts of the search. The tolerance is 0 persons: counts are whole numbers, and a block is pruned
+// only where its bound is below the circle held.
 pub struct MostPopulous {
     pub centre: Candidate,
     pub radius: RadiusKm,
@@ -23,6 +25,7 @@ pub struct MostPopulous {
     pub tally: Tally,
 }
 
+// The circle, or the number of the first question that is answered no.
 pub enum SearchAnswer {
     Found(MostPopulous),
     Refused(u32),

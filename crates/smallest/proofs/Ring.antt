@@ -1,21 +1,21 @@
 -- The nine marked facts: the ring's questions are all answered, so each call gives what is computed of its search or its run.
 use mathlib.Core.Path.{ap}
-use Rattle.search.proofs.Ring.{ring-open, ring-searches}
 use Rattle.grid.specs.Answer.{answered}
-use Rattle.ledger.specs.Ledger.{ledgers}
-use Rattle.measure.specs.Target.{measures}
-use Rattle.probes.specs.Ring.{lineOf}
+use Rattle.search.proofs.Ring.{ring-open, ring-searches}
+use Rattle.ledger.specs.Ledger.{open-ledgers}
+use Rattle.share.specs.Target.{open-shares}
+use Rattle.probes.specs.Ring.{valuesOf}
 use Rattle.probes.proofs.Ring.{run-open, ring-radii}
-use Rattle.smallest.specs.Call.{smallestCalls}
-use Rattle.smallest.specs.Ring.{MarkedFacts, ringLines}
+use Rattle.smallest.specs.Call.{open-smallest-calls}
+use Rattle.smallest.specs.Ring.{MarkedFacts, open-ring-calls}
 
 -- all that a smallest-radius call is made of beside a search, for facts that are computed
 unfoldable pub smallest-open : Unit {0}
-unfolding run-open lineOf smallestCalls ringLines
+unfolding run-open valuesOf open-smallest-calls open-ring-calls
 smallest-open = tt
 
 pub marked-facts : MarkedFacts
-unfolding ring-open ledgers measures smallestCalls ringLines
+unfolding ring-open open-ledgers open-shares open-smallest-calls open-ring-calls
 marked-facts =
     record {
       searches = ring-searches;

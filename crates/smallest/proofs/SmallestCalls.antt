@@ -1,57 +1,48 @@
--- The smallest-radius call: its questions in turn, what an accepted one knows at each step, and what an answer and a refusal leave.
+-- The smallest-radius call: what its questions have passed, what an accepted one knows at each step, and what an answer and a refusal leave.
 use Prim.Native.Nat.{ℕ, zero, suc, _<_, _^_}
 use mathlib.Core.Path.{_≡_, refl, sym, ap, _∙_}
-use mathlib.Core.Bool.{true, false}
-use mathlib.Core.List.{List, []}
+use mathlib.Core.Bool.{true}
+use mathlib.Core.List.{List, _∷_}
 use native.Mathlib.Omega.{arith}
-use borrow.Author.Tests.{le-leb, ltb-true}
-use lib.Dec.{ltb}
 use lib.Ieee.{Float}
 use lib.ListN.{length, getD}
+use borrow.Author.Tests.{le-leb}
 use Rattle.floats.specs.Binary.{whole}
-use Rattle.lists.proofs.Bools.{and-left}
 use Rattle.grid.specs.declared.Grid.{Grid}
-use Rattle.grid.specs.Grid.{ceiling, onGrid}
-use Rattle.grid.specs.Map.{Map, angleAt}
-use Rattle.grid.specs.Answer.{firstNo, refused, after, shown}
-use Rattle.grid.specs.Questions.{mapQuestions}
-use Rattle.grid.proofs.Answers.{Passed, map-append, firstNo-yes, firstNo-no, passed-first, decide-yes, decide-no}
-use Rattle.table.specs.Table.{total, filledSums}
-use Rattle.table.specs.Summed.{countsMap, globeMap, tableMap, Fillable}
-use Rattle.table.proofs.Tables.{bare-filled, bare-total, globe-map}
-use Rattle.kernel.specs.Circle.{angleTo, inCircle, coversWholeGrid}
-use Rattle.kernel.specs.Kernel.{globeOf, sheetOf, OnSheet}
+use Rattle.grid.specs.Grid.{ceiling}
+use Rattle.grid.specs.Map.{Map, sheetOf}
+use Rattle.grid.specs.Answer.{question, firstNo, refused, after, shown}
+use Rattle.grid.proofs.Answers.{Passed, map-then, decide-yes, decide-no}
+use Rattle.sums.specs.Sums.{total, filledSums}
+use Rattle.sums.specs.State.{countsMap, globeMap, tableMap}
+use Rattle.sums.specs.Requires.{Fillable}
+use Rattle.sums.proofs.Tables.{bare-filled, bare-total, globe-map}
 use Rattle.kernel.specs.Call.{radiusInRange}
-use Rattle.kernel.proofs.Calls.{map-refused, map-then}
 use Rattle.bounds.specs.declared.Spacing.{Spacing}
 use Rattle.bounds.specs.Spacing.{spacingGiven}
-use Rattle.search.specs.Call.{Buffers, buffersFit, buffersAfter}
-use Rattle.levels.specs.Work.{mapOf}
+use Rattle.levels.specs.State.{summedMap}
+use Rattle.search.specs.Call.{Buffers, buffers, buffersFit, buffersAfter}
 use Rattle.search.proofs.SearchCalls as searching
 use Rattle.search.proofs.SearchCalls.{SearchPassed, to-search}
 use Rattle.ledger.specs.declared.Ledger.{Ledger}
 use Rattle.ledger.specs.Ledger.{ledgerInOrder, placesFree}
-use Rattle.climb.specs.declared.Bracket.{Bracket}
-use Rattle.measure.specs.declared.Target.{Target}
-use Rattle.measure.specs.Target.{predicateSlackPersons, shareInRange, targetOf}
+use Rattle.share.specs.declared.Target.{Target}
+use Rattle.share.specs.Target.{predicateSlackPersons, shareInRange, targetOf}
 use Rattle.probes.specs.declared.RunEnd.{RunEnd}
-use Rattle.probes.specs.declared.RunState.{RunState}
 use Rattle.probes.specs.declared.Smallest.{Smallest}
+use Rattle.probes.specs.Probes.{mostRadii}
+use Rattle.probes.specs.Smallest.{Settled, smallest}
+use Rattle.probes.specs.State.{answerBy, settledBy, Ran}
+use Rattle.probes.specs.Requires.{CanRun, CanConclude}
+use Rattle.probes.proofs.Ends.{answer-sheet}
+use Rattle.probes.proofs.Probes.{people-exact}
 use Rattle.smallest.specs.declared.SmallestResult.{SmallestResult}
 use Rattle.smallest.specs.declared.SmallestAnswer.the-variants.{Found}
-use Rattle.probes.specs.Probes.{mostRadii, targetPersons}
-use Rattle.probes.specs.Smallest.{Settled, target, smallest}
-use Rattle.smallest.specs.Call.{smallestQuestions, smallestCall, smallestAnswer}
-use Rattle.probes.specs.State.{answerBy, settledBy}
-use Rattle.probes.specs.Probing.{CanRun, Ran}
-use Rattle.smallest.specs.Settling.{CanConclude, CanSettle, IsSettled, ownQuestions}
-use Rattle.probes.proofs.Probes.{people-exact}
+use Rattle.smallest.specs.Call.{smallestQuestions, smallestCall, smallestAnswer, smallestGave, ownQuestions}
+use Rattle.smallest.specs.Requires.{CanSettle}
+use Rattle.smallest.specs.State.{IsSettled}
 
 -- ---- the questions
-
-none-asked : firstNo [] ≡ 0
-unfolding firstNo
-none-asked = refl
 
 module _ (g : Grid) (spacing : Spacing) (share : Float) (l : Ledger) where
   -- what an accepted call has passed of its own questions
@@ -60,38 +51,6 @@ module _ (g : Grid) (spacing : Spacing) (share : Float) (l : Ledger) where
     pub given : spacingGiven spacing ≡ true
     pub ledger : ledgerInOrder g l ≡ true
     pub room : placesFree l mostRadii ≡ true
-
-  pub own-passed : firstNo (ownQuestions g spacing share l) ≡ 0 → OwnPassed
-  unfolding ownQuestions
-  own-passed e =
-      let nine = passed-first 8 _ _ e in
-      let ten = passed-first 9 _ _ (nine .1) in
-      let eleven = passed-first 10 _ _ (ten .1) in
-      let twelve = passed-first 11 _ _ (eleven .1) in
-      record { share-is = nine .0; given = ten .0; ledger = eleven .0; room = twelve .0 }
-
-  pub own-9 : shareInRange share ≡ false → 9 ≡ firstNo (ownQuestions g spacing share l)
-  unfolding ownQuestions
-  own-9 a = sym (firstNo-no 9 _ _ a)
-
-  module _ (a : shareInRange share ≡ true) where
-    pub own-10 : spacingGiven spacing ≡ false → 10 ≡ firstNo (ownQuestions g spacing share l)
-    unfolding ownQuestions
-    own-10 b = sym (firstNo-yes 9 _ _ a ∙ firstNo-no 10 _ _ b)
-
-    module _ (b : spacingGiven spacing ≡ true) where
-      pub own-11 : ledgerInOrder g l ≡ false → 11 ≡ firstNo (ownQuestions g spacing share l)
-      unfolding ownQuestions
-      own-11 c = sym (firstNo-yes 9 _ _ a ∙ firstNo-yes 10 _ _ b ∙ firstNo-no 11 _ _ c)
-
-      module _ (c : ledgerInOrder g l ≡ true) where
-        pub own-12 : placesFree l mostRadii ≡ false → 12 ≡ firstNo (ownQuestions g spacing share l)
-        unfolding ownQuestions
-        own-12 d = sym (firstNo-yes 9 _ _ a ∙ firstNo-yes 10 _ _ b ∙ firstNo-yes 11 _ _ c ∙ firstNo-no 12 _ _ d)
-
-        pub own-none : placesFree l mostRadii ≡ true → 0 ≡ firstNo (ownQuestions g spacing share l)
-        unfolding ownQuestions
-        own-none d = sym (firstNo-yes 9 _ _ a ∙ firstNo-yes 10 _ _ b ∙ firstNo-yes 11 _ _ c ∙ firstNo-yes 12 _ _ d ∙ none-asked)
 
 module _ (m : Map) (spacing : Spacing) (share : Float) (l : Ledger) (lent : Buffers) where
   -- what an accepted call has passed
@@ -103,78 +62,53 @@ module _ (m : Map) (spacing : Spacing) (share : Float) (l : Ledger) (lent : Buff
   pub smallest-passed : firstNo (smallestQuestions m spacing share l lent) ≡ 0 → SmallestPassed
   unfolding smallestQuestions ownQuestions
   smallest-passed e =
-      let first = map-then m _ e in
-      let seven = passed-first 6 _ _ (first .1) in
-      record { map = first .0; fit = seven .0; own = own-passed (m .globe .grid) spacing share l (seven .1) }
-
-  pub refused-map : (n : ℕ) → n ≡ firstNo (mapQuestions m) → (n ≡ 0 → ⊥) → n ≡ firstNo (smallestQuestions m spacing share l lent)
-  unfolding smallestQuestions
-  refused-map n e h = map-refused m _ n e h
-
-  module _ (p : Passed m) where
-    pub refused-7 : buffersFit (m .globe .grid) lent ≡ false → 7 ≡ firstNo (smallestQuestions m spacing share l lent)
-    unfolding smallestQuestions
-    refused-7 f = sym (map-append m _ p ∙ firstNo-no 7 _ _ f)
-
-    pub refused-own : buffersFit (m .globe .grid) lent ≡ true → (n : ℕ) → n ≡ firstNo (ownQuestions (m .globe .grid) spacing share l) → n ≡ firstNo (smallestQuestions m spacing share l lent)
-    unfolding smallestQuestions ownQuestions
-    refused-own f n e = e ∙ sym (map-append m _ p ∙ firstNo-yes 7 _ _ f)
+      let g = m .globe .grid in
+      let all = map-then m (question 7 (buffersFit g lent) ∷ ownQuestions g spacing share l) refl e in
+      let own = all .1 .1 in
+      record { map = all .0; fit = all .1 .0; own = record { share-is = own .0; given = own .1 .0; ledger = own .1 .1 .0; room = own .1 .1 .1 .0 } }
 
   -- ---- what the call gives
 
   pub smallest-refused : (n : ℕ) → n ≡ firstNo (smallestQuestions m spacing share l lent) → (n ≡ 0 → ⊥)
-      → record { answer = refused n; ledger = l; lent = record { sums = lent .sums; near = lent .near; far = lent .far } } ≡ smallestCall m spacing share l lent
+      → record { answer = refused n; ledger = l; lent = buffers (lent .sums) (lent .current) (lent .following) } ≡ smallestCall m spacing share l lent
   unfolding smallestCall buffersAfter after shown
   smallest-refused zero e h = absurd (h refl)
   smallest-refused (suc k) e h =
       let n = firstNo (smallestQuestions m spacing share l lent) in rw (decide-no n k (smallest m spacing share l .answer) (sym e), ← e)
 
-  pub smallest-answered : (r : SmallestResult) (sums near far : List ℕ) → firstNo (smallestQuestions m spacing share l lent) ≡ 0
-      → IsSettled (smallest m spacing share l) r → sums ≡ filledSums m (lent .sums) → length near ≡ length (lent .near) → length far ≡ length (lent .far)
-      → record { answer = smallestAnswer (r .answer); ledger = r .ledger; lent = record { sums = sums; near = shown (smallestAnswer (r .answer)) near; far = shown (smallestAnswer (r .answer)) far } }
-      ≡ smallestCall m spacing share l lent
+  pub smallest-answered : (r : SmallestResult) (sums current following : List ℕ) → firstNo (smallestQuestions m spacing share l lent) ≡ 0
+      → IsSettled (smallest m spacing share l) r → sums ≡ filledSums m (lent .sums) → length current ≡ length (lent .current) → length following ≡ length (lent .following)
+      → smallestGave r sums current following ≡ smallestCall m spacing share l lent
   unfolding smallestCall buffersAfter after shown smallestAnswer
-  smallest-answered r sums near far e f s n k =
+  smallest-answered r sums current following e f s n k =
       rw (decide-yes (firstNo (smallestQuestions m spacing share l lent)) (smallest m spacing share l .answer) e, f .answer, f .ledger, s, n, k)
 
 -- ---- from an accepted map with its sums filled to its answer
 
--- circles read no cosine
-answer-sheet : (g : Grid) (angles cosines : List Float) (t : Target) (slack : Float) (people : ℕ) (c : Bracket) (s : RunState)
-    → answerBy (sheetOf g angles) t slack people c s ≡ answerBy (globeOf g angles cosines) t slack people c s
-unfolding answerBy coversWholeGrid inCircle angleTo angleAt
-answer-sheet g angles cosines t slack people c s = refl
-
-pub row-on : {g : Grid} {angles : List Float} {people : ℕ} {s : RunState} → CanConclude g angles people s → OnSheet g angles (s .found .row)
-unfolding onGrid
-row-on {g} {s = s} can =
-    record { sheet = can .sheet; on = ltb-true _ _ (and-left (ltb (s .found .row .0) (g .height)) (ltb (s .found .col .0) (g .width)) (can .found .on)) }
-
-module _ {g : Grid} {angles cosines : List Float} {sums near far : List ℕ} {l : Ledger} (can : CanSettle g angles cosines sums near far l) (spacing : Spacing)
+module _ {g : Grid} {angles cosines : List Float} {sums current following : List ℕ} {l : Ledger} (can : CanSettle g angles cosines sums current following l) (spacing : Spacing)
     {share : Float} {people : ℕ} (p : people ≡ total (tableMap g sums)) {t : Target} (q : t ≡ targetOf share people) {slack : Float}
     (k : slack ≡ predicateSlackPersons g (t .total)) where
-  all-people : people ≡ total (mapOf g angles cosines sums)
-  all-people = p ∙ bare-total (mapOf g angles cosines sums)
+  all-people : people ≡ total (summedMap g angles cosines sums)
+  all-people = p ∙ bare-total (summedMap g angles cosines sums)
 
   same-share : t .share ≡ share
   same-share = ap (λ (x : Target). x .share) q
 
-  the-target : t ≡ target (mapOf g angles cosines sums) share
-  unfolding target targetPersons
+  the-target : t ≡ targetOf share (total (summedMap g angles cosines sums))
   the-target = q ∙ ap (targetOf share) all-people
 
-  pub can-run : CanRun g angles cosines sums near far t slack people l
+  pub can-run : CanRun g angles cosines sums current following t slack people l
   can-run =
       record {
         search = can .search;
-        target = the-target ∙ ap (target (mapOf g angles cosines sums)) (sym same-share);
-        people-are = all-people;
+        target = the-target ∙ ap (λ (x : Float). targetOf x (total (summedMap g angles cosines sums))) (sym same-share);
+        total-is = all-people;
         slack-is = k;
         ledger = can .ledger;
         room = can .room;
       }
 
-  module _ {e : RunEnd} (ran : Ran (mapOf g angles cosines sums) spacing (t .share) l e) where
+  module _ {e : RunEnd} (ran : Ran (summedMap g angles cosines sums) spacing (t .share) l e) where
     pub can-conclude : CanConclude g angles people (e .state)
     can-conclude =
         let ready = can .search .ready in
@@ -185,10 +119,10 @@ module _ {g : Grid} {angles cosines : List Float} {sums near far : List ℕ} {l 
         }
 
     pub is-settled : {a : Smallest} → a ≡ answerBy (sheetOf g angles) t slack people (e .bracket) (e .state)
-        → IsSettled (smallest (mapOf g angles cosines sums) spacing share l) (record { answer = Found a; ledger = e .ledger })
-    unfolding settledBy target
+        → IsSettled (smallest (summedMap g angles cosines sums) spacing share l) (record { answer = Found a; ledger = e .ledger })
+    unfolding settledBy
     is-settled {a} f =
-        let m = mapOf g angles cosines sums in
+        let m = summedMap g angles cosines sums in
         let same : settledBy m share (e .bracket) (e .state) (e .ledger) ≡ smallest m spacing share l = rw same-share at (ran .same) in
         let width : slack ≡ predicateSlackPersons g (whole (total m)) = k ∙ ap (λ (x : Target). predicateSlackPersons g (x .total)) the-target in
         let whole-answer : a ≡ settledBy m share (e .bracket) (e .state) (e .ledger) .answer
@@ -211,7 +145,7 @@ module _ {m : Map} {spacing : Spacing} {share : Float} {l : Ledger} {lent : Buff
     pub sums-filled : last ≡ filledSums m (lent .sums)
     sums-filled = filled ∙ bare-filled m (lent .sums)
 
-    pub to-settle : ((i : ℕ) → getD (m .counts) i 0 < 2 ^ 32) → CanSettle (m .globe .grid) (m .globe .angles) (m .globe .cosines) last (lent .near) (lent .far) l
+    pub to-settle : ((i : ℕ) → getD (m .counts) i 0 < 2 ^ 32) → CanSettle (m .globe .grid) (m .globe .angles) (m .globe .cosines) last (lent .current) (lent .following) l
     to-settle small = record { search = to-search as-search last filled small; ledger = p .own .ledger; room = p .own .room }
 
     -- the map by its sums is the map

@@ -1,3 +1,4 @@
 pub mod Call
-pub mod Settling
+pub mod Requires
+pub mod State
 pub mod Ring

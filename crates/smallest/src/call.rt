@@ -2,72 +2,18 @@
 use crate::SmallestAnswer;
 use crate::SmallestResult;
 use bounds::Spacing;
-use climb::Bracket;
 use grid::Grid;
-use grid::RadiusKm;
-use grid::Row;
 use ledger::Ledger;
-use measure::Target;
-use probes::RunState;
-use probes::Smallest;
+use probes::MOST_RADII;
 ghost use mathlib.Core.Path.{_≡_};
-ghost use mathlib.Core.Bool.{true, cond};
-ghost use Rattle.grid.specs.Answer.{firstNo, shown};
-ghost use Rattle.floats.specs.Binary.{whole};
-ghost use Rattle.kernel.specs.Circle.{coversWholeGrid};
-ghost use Rattle.kernel.specs.Kernel.{sheetOf, OnSheet};
-ghost use Rattle.levels.specs.Work.{mapOf};
+ghost use Rattle.grid.specs.Answer.{firstNo};
+ghost use Rattle.grid.specs.Map.{lentMap};
+ghost use Rattle.levels.specs.State.{summedMap};
+ghost use Rattle.search.specs.Call.{buffers};
 ghost use Rattle.probes.specs.Smallest.{smallest};
-ghost use Rattle.smallest.specs.Call.{smallestQuestions, smallestAnswer, smallestCall};
-ghost use Rattle.probes.specs.State.{answerBy};
-ghost use Rattle.smallest.specs.Settling.{CanConclude, CanSettle, IsSettled, ownQuestions};
-
-// The most radii that a call probes.
-const MOST_RADII: usize = 28;
-
-// At the ceiling, where all radii fell short, every circle is the whole grid.
-fn covers(grid: Grid, angles: &[f64], bracket: Bracket, row: Row) -> bool
-    requires { ⌜ OnSheet grid (now angles) row ⌝ }
-    ensures { λ r. ⌜ r ≡ cond (bracket .reached) (coversWholeGrid (sheetOf grid (now (angles .entry))) (whole (bracket .low)) row) true ⌝ }
-{
-    if bracket.reached {
-        let kernel = kernel::build(grid, angles, row, bracket.low as f64);
-        return kernel::covers(grid, kernel);
-    }
-    true
-}
-
-fn conclude(
-    grid: Grid,
-    angles: &[f64],
-    target: Target,
-    slack: f64,
-    people: u64,
-    bracket: Bracket,
-    state: RunState,
-) -> Smallest
-    requires { ⌜ CanConclude grid (now angles) people state ⌝ }
-    ensures { λ r. ⌜ r ≡ answerBy (sheetOf grid (now (angles .entry))) target slack people bracket state ⌝ }
-{
-    let centre = state.found;
-    let short = state.short;
-    let ambiguity = state.ambiguity;
-    let stats = state.stats;
-    let whole_grid = covers(grid, angles, bracket, centre.row);
-    let share = measure::share_of(centre.population, people);
-    Smallest {
-        radius_km: RadiusKm(bracket.low),
-        centre,
-        target,
-        share_achieved: share,
-        short_below: short,
-        covers_whole_grid: whole_grid,
-        predicate_slack_persons: slack,
-        ambiguity,
-        tolerance_persons: 0.0,
-        stats,
-    }
-}
+ghost use Rattle.smallest.specs.Call.{smallestQuestions, smallestGave, smallestCall, ownQuestions};
+ghost use Rattle.smallest.specs.Requires.{CanSettle};
+ghost use Rattle.smallest.specs.State.{IsSettled};
 
 // The smallest radius of a map whose questions are answered and whose sums are filled.
 fn settle(
@@ -75,34 +21,36 @@ fn settle(
     angles: &[f64],
     cosines: &[f64],
     sums: &[u64],
-    near: &mut [u64],
-    far: &mut [u64],
+    current: &mut [u64],
+    following: &mut [u64],
     share: f64,
     spacing: Spacing,
     ledger: Ledger,
 ) -> SmallestResult
-    requires { ⌜ CanSettle grid (now angles) (now cosines) (now sums) (now near) (now far) ledger ⌝ }
-    ensures { λ r. ⌜ IsSettled (smallest (mapOf grid (now (angles .entry)) (now (cosines .entry)) (now (sums .entry))) spacing share ledger) r ⌝ }
+    requires { ⌜ CanSettle grid (now angles) (now cosines) (now sums) (now current) (now following) ledger ⌝ }
+    ensures { λ r. ⌜ IsSettled
+        (smallest (summedMap grid (now (angles .entry)) (now (cosines .entry)) (now (sums .entry))) spacing share ledger)
+        r ⌝ }
 {
-    let people = table::total(grid, sums);
-    let target = measure::target_of(share, people);
-    let slack = measure::predicate_slack_persons(grid, target.total);
+    let total = sums::total(grid, sums);
+    let target = share::target_of(share, total);
+    let slack = share::predicate_slack_persons(grid, target.total);
     let end = probes::run(
         grid,
         angles,
         cosines,
         sums,
-        near,
-        far,
+        current,
+        following,
         spacing,
         target,
         slack,
-        people,
+        total,
         ledger,
     );
     let bracket = end.bracket;
     let state = end.state;
-    let found = conclude(grid, angles, target, slack, people, bracket, state);
+    let found = probes::conclude(grid, angles, target, slack, total, bracket, state);
     let kept = end.ledger;
     SmallestResult {
         answer: SmallestAnswer::Found(found),
@@ -114,7 +62,7 @@ fn settle(
 fn own_refusal(grid: Grid, share: f64, spacing: Spacing, ledger: Ledger) -> u32
     ensures { λ r. ⌜ r ≡ firstNo (ownQuestions grid spacing share ledger) ⌝ }
 {
-    if !measure::share_in_range(share) {
+    if !share::share_in_range(share) {
         return 9;
     }
     if !bounds::spacing_given(spacing) {
@@ -139,21 +87,26 @@ fn smallest_refusal(
     spacing: Spacing,
     ledger: Ledger,
     sums: &[u64],
-    near: &[u64],
-    far: &[u64],
+    current: &[u64],
+    following: &[u64],
 ) -> u32
-    ensures { λ r. ⌜ r ≡ firstNo (smallestQuestions (record { globe = record { grid = grid; angles = now (angles .entry); cosines = now (cosines .entry) }; counts = now (counts .entry) }) spacing share ledger (record { sums = now (sums .entry); near = now (near .entry); far = now (far .entry) })) ⌝ }
+    ensures { λ r. ⌜ r ≡ firstNo (smallestQuestions
+        (lentMap grid (now (counts .entry)) (now (angles .entry)) (now (cosines .entry)))
+        spacing share ledger
+        (buffers (now (sums .entry)) (now (current .entry)) (now (following .entry)))) ⌝ }
 {
     let refusal = grid::map_refusal(grid, counts, angles, cosines);
     if refusal != 0 {
         return refusal;
     }
-    if !search::buffers_fit(grid, sums, near, far) {
+    if !search::buffers_fit(grid, sums, current, following) {
         return 7;
     }
     own_refusal(grid, share, spacing, ledger)
 }
 
+// The smallest-radius call: the answer, or the number of the first question that is answered no, beside the ledger after it. A refusal gives the
+// ledger back as it came. An accepted call fills the sums even where the ledger holds every probe, so that what it leaves does not hang on that.
 pub fn smallest_radius(
     grid: Grid,
     counts: &[u32],
@@ -163,14 +116,13 @@ pub fn smallest_radius(
     spacing: Spacing,
     ledger: Ledger,
     sums: &mut [u64],
-    near: &mut [u64],
-    far: &mut [u64],
+    current: &mut [u64],
+    following: &mut [u64],
 ) -> SmallestResult
-    ensures { λ r. ⌜ record {
-      answer = smallestAnswer (r .answer);
-      ledger = r .ledger;
-      lent = record { sums = now (sums .exit); near = shown (smallestAnswer (r .answer)) (now (near .exit)); far = shown (smallestAnswer (r .answer)) (now (far .exit)) };
-    } ≡ smallestCall (record { globe = record { grid = grid; angles = now (angles .entry); cosines = now (cosines .entry) }; counts = now (counts .entry) }) spacing share ledger (record { sums = now (sums .entry); near = now (near .entry); far = now (far .entry) }) ⌝ }
+    ensures { λ r. ⌜ smallestGave r (now (sums .exit)) (now (current .exit)) (now (following .exit)) ≡ smallestCall
+        (lentMap grid (now (counts .entry)) (now (angles .entry)) (now (cosines .entry)))
+        spacing share ledger
+        (buffers (now (sums .entry)) (now (current .entry)) (now (following .entry))) ⌝ }
 {
     let refusal = smallest_refusal(
         grid,
@@ -181,8 +133,8 @@ pub fn smallest_radius(
         spacing,
         ledger,
         sums,
-        near,
-        far,
+        current,
+        following,
     );
     if refusal != 0 {
         return SmallestResult {
@@ -190,14 +142,14 @@ pub fn smallest_radius(
             ledger,
         };
     }
-    table::fill_sums(grid, counts, sums);
+    sums::fill_sums(grid, counts, sums);
     settle(
         grid,
         angles,
         cosines,
         sums,
-        near,
-        far,
+        current,
+        following,
         share,
         spacing,
         ledger,

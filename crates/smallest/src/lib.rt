@@ -6,6 +6,7 @@ pub use call::smallest_radius;
 use ledger::Ledger;
 use probes::Smallest;
 
+// The smallest radius, or the number of the refusal.
 pub enum SmallestAnswer {
     Found(Smallest),
     Refused(u32),

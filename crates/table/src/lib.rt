@@ -1,192 +1,52 @@
-// The table: prefix sums of the counts in a lent buffer, and the people of bands of rows and spans of columns by four words or six.
+// A table: the grid together with the lent sums. Its functions take it apart and call those of crate `sums`.
 ghost use mathlib.Core.Path.{_≡_};
-ghost use Prim.Native.Nat.{_+_, _*_, _≤_};
-ghost use lib.Dec.{leb};
-ghost use lib.ListN.{length};
-ghost use Rattle.lists.specs.Front.{over};
-ghost use Rattle.grid.specs.Grid.{closing};
-ghost use Rattle.table.specs.Table.{corner as cornerOf, sumsWord, sumsFit, filledSums, total as totalOf, rectangle, bandPopulation};
-ghost use Rattle.table.specs.Summed.{countsMap, tableMap, Fillable, RowReady, Summed, AtCorner, OnTable, InTable, bandSpan};
+ghost use Rattle.sums.specs.Sums.{bandOf, spanOf, total, bandPopulation};
+ghost use Rattle.sums.specs.State.{tableMap};
+ghost use Rattle.sums.specs.Requires.{Summed, OnTable};
 use grid::Col;
 use grid::Grid;
 use grid::Row;
+use sums::ColSpan;
+use sums::RowBand;
 
-// The rows from north to south, both included.
-pub struct RowBand {
-    pub north: Row,
-    pub south: Row,
+// The grid, and the prefix sums of its counts in a buffer that is lent for as long as the table is used.
+pub struct Table<'a> {
+    pub grid: Grid,
+    pub sums: &'a [u64],
 }
 
-// The rows from north to before end, by which corners are read.
-struct Rows {
-    north: u32,
-    end: u32,
-}
-
-// The columns from west eastward to east, both included; across the seam where west is the greater.
-pub struct ColSpan {
-    pub west: Col,
-    pub east: Col,
-}
-
-// Question 7, for the sums buffer. Rows and the last row apart, so that no product wraps.
-pub fn sums_fit(grid: Grid, sums: &[u64]) -> bool
-    ensures { λ r. ⌜ r ≡ sumsFit grid (now (sums .entry)) ⌝ }
+// A table of what is lent; it reads nothing.
+pub fn table_of<'a>(grid: Grid, sums: &'a [u64]) -> Table<'a>
+    ensures { λ t. ⌜ t ≡ record { grid = grid; sums = sums .entry } ⌝ }
 {
-    let stride = grid.width as usize + 1;
-    let rows = grid.height as usize * stride;
-    if rows <= sums.len() {
-        stride <= sums.len() - rows
-    } else {
-        false
-    }
-}
-
-fn wide(x: u32) -> u64
-    ensures { λ r. ⌜ r ≡ x ⌝ }
-{
-    x as u64
-}
-
-// The words of row 0: no cell lies above them.
-fn zero_row(sums: &mut [u64], stride: usize)
-    requires { ⌜ stride ≤ length (now sums) ⌝ }
-    ensures { λ _. ⌜ now (sums .exit) ≡ over (λ i. 0) stride (now (sums .entry)) ⌝ }
-{
-    let mut k = 0;
-    while k < stride {
-        sums[k] = 0;
-        k += 1;
-    }
-}
-
-// The words of row `row + 1`: each is the word above it and the row's counts so far.
-fn fill_row(grid: Grid, row: usize, counts: &[u32], sums: &mut [u64])
-    requires { ⌜ RowReady grid row (now counts) (now sums) ⌝ }
-    ensures { λ _. ⌜ now (sums .exit) ≡ over (sumsWord (countsMap grid (now (counts .entry)))) (row * (grid .width + 1) + (grid .width + 1) + (grid .width + 1)) (now (sums .entry)) ⌝ }
-{
-    let width = grid.width as usize;
-    let above = row * (width + 1);
-    let base = above + (width + 1);
-    let from = row * width;
-    sums[base] = 0;
-    let mut run: u64 = 0;
-    let mut col: usize = 0;
-    while col < width {
-        run += wide(counts[from + col]);
-        sums[base + 1 + col] = sums[above + 1 + col] + run;
-        col += 1;
-    }
-}
-
-// The prefix sums of the counts at the front of `sums`, whose tail is kept.
-pub fn fill_sums(grid: Grid, counts: &[u32], sums: &mut [u64])
-    requires { ⌜ Fillable grid (now counts) (now sums) ⌝ }
-    ensures { λ _. ⌜ now (sums .exit) ≡ filledSums (countsMap grid (now (counts .entry))) (now (sums .entry)) ⌝ }
-{
-    let height = grid.height as usize;
-    zero_row(sums, grid.width as usize + 1);
-    let mut row: usize = 0;
-    while row < height {
-        fill_row(grid, row, counts, sums);
-        row += 1;
-    }
-}
-
-// The word of a corner: the people above a row and west of a column, either of which may be one past the last.
-pub fn corner(grid: Grid, sums: &[u64], row: u32, col: u32) -> u64
-    requires { ⌜ Summed grid (now sums) ⌝ }
-    requires { ⌜ AtCorner grid row col ⌝ }
-    ensures { λ r. ⌜ r ≡ cornerOf (tableMap grid (now (sums .entry))) row col ⌝ }
-{
-    let stride = grid.width as usize + 1;
-    sums[row as usize * stride + col as usize]
-}
-
-// All people: the last corner.
-pub fn total(grid: Grid, sums: &[u64]) -> u64
-    requires { ⌜ Summed grid (now sums) ⌝ }
-    ensures { λ r. ⌜ r ≡ totalOf (tableMap grid (now (sums .entry))) ⌝ }
-{
-    corner(grid, sums, grid.height, grid.width)
-}
-
-// The people of some rows west of a column: two words.
-fn strip(grid: Grid, sums: &[u64], rows: Rows, col: u32) -> u64
-    requires { ⌜ Summed grid (now sums) ⌝ }
-    requires { ⌜ (rows .north ≤ rows .end) × (rows .end ≤ grid .height) × (col ≤ grid .width) ⌝ }
-    ensures { λ r. ⌜ r ≡ rectangle (tableMap grid (now (sums .entry))) rows 0 col ⌝ }
-{
-    let below = corner(grid, sums, rows.end, col);
-    let above = corner(grid, sums, rows.north, col);
-    below - above
-}
-
-// The people of some rows from a column to before another: four words.
-fn inland(grid: Grid, sums: &[u64], rows: Rows, west: u32, end: u32) -> u64
-    requires { ⌜ Summed grid (now sums) ⌝ }
-    requires { ⌜ (rows .north ≤ rows .end) × (rows .end ≤ grid .height) × (west ≤ end) × (end ≤ grid .width) ⌝ }
-    ensures { λ r. ⌜ r ≡ rectangle (tableMap grid (now (sums .entry))) rows west end ⌝ }
-{
-    strip(grid, sums, rows, end) - strip(grid, sums, rows, west)
-}
-
-// The same where the seam lies between, in two pieces: six words.
-fn across(grid: Grid, sums: &[u64], rows: Rows, west: u32, end: u32) -> u64
-    requires { ⌜ Summed grid (now sums) ⌝ }
-    requires { ⌜ (rows .north ≤ rows .end) × (rows .end ≤ grid .height) × (west ≤ grid .width) × (end ≤ grid .width) ⌝ }
-    ensures { λ r. let m = tableMap grid (now (sums .entry)) in ⌜ r ≡ rectangle m rows west (grid .width) + rectangle m rows 0 end ⌝ }
-{
-    inland(grid, sums, rows, west, grid.width) + strip(grid, sums, rows, end)
+    Table { grid, sums }
 }
 
 // The people of a band of rows and a span of columns.
-pub fn population(grid: Grid, sums: &[u64], band: RowBand, span: ColSpan) -> u64
-    requires { ⌜ Summed grid (now sums) ⌝ }
-    requires { ⌜ OnTable grid band span ⌝ }
-    ensures { λ r. ⌜ r ≡ bandPopulation (tableMap grid (now (sums .entry))) band span ⌝ }
+pub fn population<'a>(table: Table<'a>, band: RowBand, span: ColSpan) -> u64
+    requires { ⌜ Summed (table .grid) (now (table .sums)) ⌝ }
+    requires { ⌜ OnTable (table .grid) band span ⌝ }
+    ensures { λ r. ⌜ r ≡ bandPopulation (tableMap (table .entry .grid) (now (table .entry .sums))) band span ⌝ }
 {
-    let rows = Rows {
-        north: band.north.0,
-        end: band.south.0 + 1,
-    };
-    let west = span.west.0;
-    let end = span.east.0 + 1;
-    if west < end {
-        return inland(grid, sums, rows, west, end);
-    }
-    across(grid, sums, rows, west, end)
+    sums::population(table.grid, table.sums, band, span)
 }
 
-// Half the width and more: every column.
-fn full_turn(grid: Grid, half: u32) -> bool
-    ensures { λ r. ⌜ r ≡ leb (closing grid) half ⌝ }
+// The people of the whole extent: the last corner.
+pub fn whole<'a>(table: Table<'a>) -> u64
+    requires { ⌜ Summed (table .grid) (now (table .sums)) ⌝ }
+    ensures { λ r. ⌜ r ≡ total (tableMap (table .entry .grid) (now (table .entry .sums))) ⌝ }
 {
-    grid.width / 2 <= half
+    let grid = table.grid;
+    sums::corner(grid, table.sums, grid.height, grid.width)
 }
 
-// The people of a band's columns at most `half` from the centre column around the ring. The full turn is counted once.
-// Each case reads its own words: ends chosen first would be tested for the seam again.
-pub fn band_span(grid: Grid, sums: &[u64], band: RowBand, centre: Col, half: u32) -> u64
+// From plain parameters to a table and through it: whoever calls this one needs no walk by hand.
+pub fn population_at(grid: Grid, sums: &[u64], north: Row, south: Row, west: Col, east: Col) -> u64
     requires { ⌜ Summed grid (now sums) ⌝ }
-    requires { ⌜ InTable grid band centre ⌝ }
-    ensures { λ r. ⌜ r ≡ bandSpan (tableMap grid (now (sums .entry))) band centre half ⌝ }
+    requires { ⌜ OnTable grid (bandOf north south) (spanOf west east) ⌝ }
+    ensures { λ r. ⌜ r ≡ bandPopulation (tableMap grid (now (sums .entry))) (bandOf north south) (spanOf west east) ⌝ }
 {
-    let rows = Rows {
-        north: band.north.0,
-        end: band.south.0 + 1,
-    };
-    let width = grid.width;
-    if full_turn(grid, half) {
-        return strip(grid, sums, rows, width);
-    }
-    let end = centre.0 + half + 1;
-    if centre.0 < half {
-        return across(grid, sums, rows, centre.0 + width - half, end);
-    }
-    let west = centre.0 - half;
-    if width < end {
-        return across(grid, sums, rows, west, end - width);
-    }
-    inland(grid, sums, rows, west, end)
+    let band = RowBand { north, south };
+    let span = ColSpan { west, east };
+    population(table_of(grid, sums), band, span)
 }

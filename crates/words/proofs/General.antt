@@ -1,8 +1,8 @@
 -- General laws of lists and tests: a buffer wholly overwritten, four elements appended, three tests in turn.
+use Prim.Native.Nat.{ℕ, _+_, _*_, _≤_, _<_}
 use mathlib.Core.Path.{_≡_, refl, sym, ap, _∙_}
 use mathlib.Core.Bool.{Bool, true, false, _&&_}
 use mathlib.Core.List.{List, [], _∷_, _++_, append-nil, append-assoc}
-use Prim.Native.Nat.{ℕ, suc, _+_, _*_, _≤_, _<_}
 use native.Mathlib.Omega.{arith}
 use native.Mathlib.Nat.{le-of-eq, min-eq-left}
 use lib.ListN.{length, take, drop, length-take, take-append-drop, set, length-append, drop-of-length-le}

@@ -1,27 +1,27 @@
 -- The words of a ledger: which fit, the ledger that they give, and the words that a ledger gives.
+use Prim.Native.Nat.{ℕ, _+_, _*_, _^_, _≤_, _<_}
 use mathlib.Core.Path.{_≡_, refl, sym, ap, _∙_}
 use mathlib.Core.Bool.{Bool, true, false, _&&_}
 use mathlib.Core.List.{List, [], _∷_, _++_, append-nil, append-assoc}
-use Prim.Native.Nat.{ℕ, _+_, _*_, _^_, _≤_, _<_}
 use native.Mathlib.Omega.{arith}
 use native.Mathlib.Nat.{le-of-eq}
 use lib.ListN.{length, take, getD, set, drop, length-take, length-append, length-replicate}
 use lib.Seq.{take-all}
 use lib.Dec.{ltb, eqb}
-use borrow.Author.Tests.{eq-eqb, eqb-true, ne-eqb, ltb-true, leb-true}
+use borrow.Author.Tests.{eq-eqb, eqb-true, ne-eqb, ltb-true}
 use Rattle.lists.specs.Counted.{allBelow}
 use Rattle.lists.specs.Lists.{concatEach}
-use Rattle.lists.specs.Front.{tabulate, onto, over}
-use Rattle.lists.proofs.Bools.{and-both, and-left, and-right, cases, cond-true, cond-false}
+use Rattle.lists.specs.Front.{onto, over}
+use Rattle.lists.proofs.Bools.{and-left, and-right, cases, cond-true}
 use Rattle.lists.proofs.All.{all-at}
 use Rattle.lists.proofs.Folds.{concat-more}
 use Rattle.lists.proofs.Fronts.{length-onto, onto-append}
+use Rattle.grid.specs.declared.Grid.{Grid}
 use Rattle.ledger.specs.declared.Entry.{Entry}
 use Rattle.ledger.specs.declared.Ledger.{Ledger}
-use Rattle.grid.specs.declared.Grid.{Grid}
 use Rattle.ledger.specs.Ledger.{capacity, ledgerInOrder}
 use Rattle.ledger.proofs.Places.{order-beyond}
-use Rattle.ledger.specs.Places.{freshLedger, blank}
+use Rattle.ledger.specs.State.{freshLedger, blank}
 use Rattle.words.specs.Words.{entryWords, ledgerWords, ledgerLength, wordAt, placeAt, readLedger, placeFits, ledgerFits, unreadable, ledgerOf}
 use Rattle.words.proofs.General.{over-whole, onto-whole, onto-taken, length-fours, first-no, second-no, last-left}
 
@@ -91,9 +91,9 @@ module _ (words : List ℕ) where
   unfolding ledgerOf
   of-fitting e = sym (cond-true (ledgerFits words) (readLedger words) unreadable e)
 
-  pub of-other : (l : Ledger) → ledgerFits words ≡ false → l ≡ freshLedger → record { len = capacity + 1; places = l .places } ≡ ledgerOf words
+  pub of-other : (l : Ledger) → ledgerFits words ≡ false → l .len ≡ capacity + 1 → l .places ≡ freshLedger .places → l ≡ ledgerOf words
   unfolding ledgerOf unreadable
-  of-other l e f = rw f (sym (cond-false (ledgerFits words) (readLedger words) unreadable e))
+  of-other l e n f = rw (e, ← n, ← f)
 
   -- OTHER WORDS ARE REFUSED BY QUESTION 11, in its place among the questions
   pub unfit-refused : (g : Grid) → ledgerFits words ≡ false → ledgerInOrder g (ledgerOf words) ≡ false

@@ -12,30 +12,35 @@ use Rattle.candidates.specs.Candidate.{candidateOf}
 use Rattle.ledger.specs.declared.Entry.{Entry}
 use Rattle.ledger.specs.declared.Ledger.{Ledger}
 use Rattle.ledger.specs.Ledger.{capacity, entry}
-use Rattle.ledger.specs.Places.{freshLedger}
+use Rattle.ledger.specs.State.{freshLedger}
 
 -- ---- from a ledger to its words
 
+-- kilometre, row, column, population
 unfoldable pub entryWords : Entry → List ℕ
 entryWords e = e .km .0 ∷ e .centre .row .0 ∷ e .centre .col .0 ∷ e .centre .population ∷ []
 
+-- the number of entries, then the words of each place
 unfoldable pub ledgerWords : Ledger → List ℕ
 ledgerWords l = l .len ∷ concatEach entryWords (l .places)
 
 -- ---- and back
 
--- 1 + 4 · 512
+-- the number of words of a ledger
 abbrev pub ledgerLength : ℕ
-ledgerLength = 2049
+ledgerLength = 1 + 4 * capacity
 
+-- a word by its place, 0 beyond the end
 abbrev pub wordAt : List ℕ → ℕ → ℕ
 wordAt words i = getD words i 0
 
+-- the entry that the four words of a place say
 unfoldable pub placeAt : List ℕ → ℕ → Entry
 placeAt words i =
     let k = 1 + 4 * i in
     entry (wordAt words k) (candidateOf (cell (wordAt words (k + 1)) (wordAt words (k + 2))) (wordAt words (k + 3)))
 
+-- the ledger that the words say
 unfoldable pub readLedger : List ℕ → Ledger
 readLedger words = record { len = wordAt words 0; places = tabulate (placeAt words) capacity }
 
@@ -45,6 +50,7 @@ placeFits words i =
     let k = 1 + 4 * i in
     ltb (wordAt words k) (2 ^ 32) && ltb (wordAt words (k + 1)) (2 ^ 32) && ltb (wordAt words (k + 2)) (2 ^ 32)
 
+-- as many words as a ledger has, and each place fits
 unfoldable pub ledgerFits : List ℕ → Bool
 ledgerFits words = eqb (length words) ledgerLength && allBelow capacity (placeFits words)
 

@@ -1,5 +1,6 @@
-// A ledger as lent words: word 0 the number of entries, then kilometre, row, column and population of each of the 512 places.
+// A ledger as lent words: word 0 the number of entries, then kilometre, row, column and population of each place.
 use candidates::Candidate;
+use grid::Cell;
 use grid::Col;
 use grid::RadiusKm;
 use grid::Row;
@@ -14,12 +15,13 @@ ghost use lib.ListN.{length, take, drop};
 ghost use Rattle.ledger.specs.Ledger.{capacity};
 ghost use Rattle.words.specs.Words.{entryWords, ledgerLength, placeFits, ledgerFits, placeAt, readLedger, ledgerOf, ledgerWords};
 
-// The number of words of a ledger.
-const LEDGER_WORDS: usize = 2049;
+// The number of words of a ledger: the number of entries, and four of each place.
+pub const LEDGER_WORDS: usize = 1 + 4 * Ledger::CAPACITY;
 
 // The numbers below this one fit 32 bits.
 const BEYOND_32_BITS: u64 = 4294967296;
 
+// Whether a word is a number of 32 bits.
 fn fits(word: u64) -> bool
     ensures { λ r. ⌜ r ≡ ltb word (2 ^ 32) ⌝ }
 {
@@ -59,22 +61,28 @@ fn ledger_fits(words: &[u64]) -> bool
     true
 }
 
+// The entry that the four words of place i say.
 fn place_at(words: &[u64], i: usize) -> Entry
     requires { ⌜ ledgerFits (now words) ≡ true ⌝ }
     requires { ⌜ i < capacity ⌝ }
     ensures { λ r. ⌜ r ≡ placeAt (now (words .entry)) i ⌝ }
 {
     let at = 1 + 4 * i;
+    let km = words[at] as u32;
+    let row = words[at + 1] as u32;
+    let col = words[at + 2] as u32;
+    let population = words[at + 3];
+    let cell = Cell {
+        row: Row(row),
+        col: Col(col),
+    };
     Entry {
-        km: RadiusKm(words[at] as u32),
-        centre: Candidate {
-            row: Row(words[at + 1] as u32),
-            col: Col(words[at + 2] as u32),
-            population: words[at + 3],
-        },
+        km: RadiusKm(km),
+        centre: Candidate::at(cell, population),
     }
 }
 
+// The ledger that words which fit say.
 fn read_ledger(words: &[u64]) -> Ledger
     requires { ⌜ ledgerFits (now words) ≡ true ⌝ }
     ensures { λ r. ⌜ r ≡ readLedger (now (words .entry)) ⌝ }
@@ -89,7 +97,8 @@ fn read_ledger(words: &[u64]) -> Ledger
     ledger
 }
 
-// The ledger of the words. Words that are none are read as 513 entries, which question 11 refuses in its turn.
+// The ledger of the words. Words that are none are read as one entry more than there are places, which question 11 refuses in its turn: a call
+// answers for the questions before it first.
 pub fn ledger_of(words: &[u64]) -> Ledger
     ensures { λ r. ⌜ r ≡ ledgerOf (now (words .entry)) ⌝ }
 {
@@ -101,7 +110,7 @@ pub fn ledger_of(words: &[u64]) -> Ledger
     ledger
 }
 
-// The four words of a place.
+// The four words of an entry, from word at on.
 fn write_place(words: &mut [u64], at: usize, entry: Entry)
     requires { ⌜ at + 3 < length (now words) ⌝ }
     ensures { λ _. ⌜ now (words .exit) ≡ take at (now (words .entry)) ++ entryWords entry ++ drop (at + 4) (now (words .entry)) ⌝ }
@@ -113,7 +122,7 @@ fn write_place(words: &mut [u64], at: usize, entry: Entry)
     words[at + 3] = centre.population;
 }
 
-// The number of entries comes last, so that the loop starts from the words as they were lent.
+// The words of a ledger, written over those lent. The number of entries comes last, so that the loop starts from the words as they were lent.
 pub fn write_ledger(ledger: Ledger, words: &mut [u64])
     requires { ⌜ length (now words) ≡ ledgerLength ⌝ }
     ensures { λ _. ⌜ now (words .exit) ≡ ledgerWords ledger ⌝ }

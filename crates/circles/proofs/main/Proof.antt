@@ -3,7 +3,8 @@ use mathlib.Core.Path.{_≡_, sym}
 use native.Mathlib.Omega.{arith}
 use lib.ListN.{length}
 use lib.Seq.{length-take-le}
-use Rattle.output.proofs.Any.{count-fits}
+use Rattle.job_output.specs.Lines.{mostOutput}
+use Rattle.job_output.proofs.Any.{count-fits}
 use borrow.Author.Needs.{needs}
 use Rattle.circles.proofs.main.Statement.{statement}
 use Rattle.circles.proofs.main.Tie as tie
@@ -34,13 +35,13 @@ run-requires c κs = search needs
 
 array-share-prefix-printed : tie.Need-array-share-prefix-printed
 array-share-prefix-printed c =
-    let long : length (c .before .run .last .1 .0) ≡ 3145964 = search needs in omega
+    let long : length (c .before .run .last .1 .0) ≡ mostOutput = search needs in omega
     (arith, count-fits (c .before .run .result) _ _ _ (c .before .run .ensures))
 
 slice-aggregate-write-all : tie.Need-slice-aggregate-write-all
 slice-aggregate-write-all c =
     let run = c .before .before .run in
-    let long : length (run .last .1 .0) ≡ 3145964 = search needs in sym
+    let long : length (run .last .1 .0) ≡ mostOutput = search needs in sym
     (length-take-le _ _ (omega (arith, count-fits (run .result) _ _ _ (run .ensures))))
 
 write-all-requires : tie.Need-write-all-requires

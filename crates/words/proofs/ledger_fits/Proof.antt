@@ -5,12 +5,12 @@ use mathlib.Core.Bool.{true}
 use native.Mathlib.Omega.{arith}
 use lib.ListN.{length}
 use borrow.Author.Tests.{not-true, not-false}
+use borrow.Author.Needs.{needs}
 use Rattle.lists.specs.Counted.{allBelow}
 use Rattle.lists.proofs.All.{all-none, all-more, all-fails}
 use Rattle.ledger.specs.Ledger.{capacity}
 use Rattle.words.specs.Words.{ledgerLength, placeFits}
 use Rattle.words.proofs.Places.{other-length, place-unfit, all-fit}
-use borrow.Author.Needs.{needs}
 use Rattle.words.proofs.ledger_fits.Statement.{statement}
 use Rattle.words.proofs.ledger_fits.Tie as tie
 

@@ -1,7 +1,8 @@
 -- By whether the words fit.
-use mathlib.Core.Path.{sym, _∙_}
-use Rattle.words.proofs.Places.{of-fitting, of-other}
+use mathlib.Core.Path.{refl, sym, ap, _∙_}
 use borrow.Author.Needs.{needs}
+use Rattle.ledger.specs.declared.Ledger.{Ledger}
+use Rattle.words.proofs.Places.{of-fitting, of-other}
 use Rattle.words.proofs.ledger_of.Statement.{statement}
 use Rattle.words.proofs.ledger_of.Tie as tie
 
@@ -21,7 +22,7 @@ add-ledger : tie.Need-add-ledger
 add-ledger c = search needs
 
 returns-2 : tie.Need-returns-2
-returns-2 c = of-other _ _ (sym (c .before .before .ledger-fits .ensures) ∙ c .before .if1 .left) (c .fresh .ensures)
+returns-2 c = of-other _ _ (sym (c .before .before .ledger-fits .ensures) ∙ c .before .if1 .left) refl (ap (λ (l : Ledger). l .places) (c .fresh .ensures))
 
 pub ledger-of-spec : {M : Type 1} → statement M
 ledger-of-spec =

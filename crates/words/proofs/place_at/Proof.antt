@@ -1,11 +1,16 @@
 -- Each word that is narrowed fits.
-use mathlib.Core.Path.{refl}
+use mathlib.Core.Path.{_≡_}
+use mathlib.Core.Bool.{true}
 use native.Mathlib.Omega.{arith}
-use Rattle.words.specs.Words.{placeAt}
-use Rattle.words.proofs.Places.{fits-length, fits-place, km-fits, row-fits, col-fits}
+use denote.Ref.{now}
 use borrow.Author.Needs.{needs}
+use Rattle.words.specs.Words.{placeAt, placeFits}
+use Rattle.words.proofs.Places.{fits-length, fits-place, km-fits, row-fits, col-fits}
 use Rattle.words.proofs.place_at.Statement.{statement}
 use Rattle.words.proofs.place_at.Tie as tie
+
+fits : (st : tie.Start) → placeFits (now (st .args .words)) (st .args .i) ≡ true
+fits st = fits-place _ (st .pre .0) _ (st .pre .1)
 
 mul-at : tie.Need-mul-at
 mul-at c = search needs
@@ -13,61 +18,54 @@ mul-at c = search needs
 add-at : tie.Need-add-at
 add-at c = search needs
 
-mul-t4 : tie.Need-mul-t4
-mul-t4 c = search needs
+mul-km : tie.Need-mul-km
+mul-km c = search needs
 
-shared-slice-read-t6 : tie.Need-shared-slice-read-t6
-shared-slice-read-t6 c = omega (arith, fits-length _ (c .before .pre .0), c .before .pre .1)
+shared-slice-read-km : tie.Need-shared-slice-read-km
+shared-slice-read-km c = let st = c .before .before in omega (arith, fits-length _ (st .pre .0), st .pre .1)
 
-cast-t7 : tie.Need-cast-t7
-cast-t7 c = record { fits = km-fits _ _ (fits-place _ (c .before .pre .0) _ (c .before .pre .1)) }
+cast-km : tie.Need-cast-km
+cast-km c = record { fits = km-fits _ _ (fits (c .before .before)) }
 
-add-t9 : tie.Need-add-t9
-add-t9 c = search needs
+add-row : tie.Need-add-row
+add-row c = search needs
 
-mul-t10 : tie.Need-mul-t10
-mul-t10 c = search needs
+mul-row : tie.Need-mul-row
+mul-row c = search needs
 
-shared-slice-read-t12 : tie.Need-shared-slice-read-t12
-shared-slice-read-t12 c =
-    let pre = c .before .before .pre in
-    omega (arith, fits-length _ (pre .0), pre .1)
+shared-slice-read-row : tie.Need-shared-slice-read-row
+shared-slice-read-row c = let st = c .before .before .before in omega (arith, fits-length _ (st .pre .0), st .pre .1)
 
-cast-t13 : tie.Need-cast-t13
-cast-t13 c =
-    let pre = c .before .before .pre in
-    record { fits = row-fits _ _ (fits-place _ (pre .0) _ (pre .1)) }
+cast-row : tie.Need-cast-row
+cast-row c = record { fits = row-fits _ _ (fits (c .before .before .before)) }
 
-add-t15 : tie.Need-add-t15
-add-t15 c = search needs
+add-col : tie.Need-add-col
+add-col c = search needs
 
-mul-t16 : tie.Need-mul-t16
-mul-t16 c = search needs
+mul-col : tie.Need-mul-col
+mul-col c = search needs
 
-shared-slice-read-t18 : tie.Need-shared-slice-read-t18
-shared-slice-read-t18 c =
-    let pre = c .before .before .before .pre in
-    omega (arith, fits-length _ (pre .0), pre .1)
+shared-slice-read-col : tie.Need-shared-slice-read-col
+shared-slice-read-col c = let st = c .before .before .before .before in omega (arith, fits-length _ (st .pre .0), st .pre .1)
 
-cast-t19 : tie.Need-cast-t19
-cast-t19 c =
-    let pre = c .before .before .before .pre in
-    record { fits = col-fits _ _ (fits-place _ (pre .0) _ (pre .1)) }
+cast-col : tie.Need-cast-col
+cast-col c = record { fits = col-fits _ _ (fits (c .before .before .before .before)) }
 
-add-t21 : tie.Need-add-t21
-add-t21 c = search needs
+add-population : tie.Need-add-population
+add-population c = search needs
 
-mul-t22 : tie.Need-mul-t22
-mul-t22 c = search needs
+mul-population : tie.Need-mul-population
+mul-population c = search needs
 
-shared-slice-read-t24 : tie.Need-shared-slice-read-t24
-shared-slice-read-t24 c =
-    let pre = c .before .before .before .before .pre in
-    omega (arith, fits-length _ (pre .0), pre .1)
+shared-slice-read-population : tie.Need-shared-slice-read-population
+shared-slice-read-population c = let st = c .before .before .before .before .before in omega (arith, fits-length _ (st .pre .0), st .pre .1)
+
+at-requires : tie.Need-at-requires
+at-requires c κs = search needs
 
 returns : tie.Need-returns
 unfolding placeAt
-returns c = refl
+returns c = rw (c .at .ensures)
 
 pub place-at-spec : {M : Type 1} → statement M
 place-at-spec =
@@ -75,18 +73,19 @@ place-at-spec =
     (tie.spec
     mul-at
     add-at
-    mul-t4
-    shared-slice-read-t6
-    cast-t7
-    add-t9
-    mul-t10
-    shared-slice-read-t12
-    cast-t13
-    add-t15
-    mul-t16
-    shared-slice-read-t18
-    cast-t19
-    add-t21
-    mul-t22
-    shared-slice-read-t24
+    mul-km
+    shared-slice-read-km
+    cast-km
+    add-row
+    mul-row
+    shared-slice-read-row
+    cast-row
+    add-col
+    mul-col
+    shared-slice-read-col
+    cast-col
+    add-population
+    mul-population
+    shared-slice-read-population
+    at-requires
     returns)

@@ -1,8 +1,8 @@
 -- The three tests in turn.
 use mathlib.Core.Path.{sym, _∙_}
 use borrow.Author.Tests.{not-true, not-false}
-use Rattle.words.proofs.Places.{km-unfit, row-unfit, col-decides}
 use borrow.Author.Needs.{needs}
+use Rattle.words.proofs.Places.{km-unfit, row-unfit, col-decides}
 use Rattle.words.proofs.place_fits.Statement.{statement}
 use Rattle.words.proofs.place_fits.Tie as tie
 
@@ -53,9 +53,9 @@ fits-requires-3 c κs = search needs
 
 returns-3 : tie.Need-returns-3
 returns-3 c =
-    let fits2 = c .before .before .before .before .before .before .fits2 in
-    col-decides _ _ _ (sym (fits2 .ensures) ∙ not-false _ (c .before .before .before .before .before .if1 .left))
-    (sym (c .before .before .before .fits3 .ensures) ∙ not-false _ (c .before .before .if2 .left)) (c .fits4 .ensures)
+    let row = c .before .before in
+    let km = row .before .before .before in
+    col-decides _ _ _ (sym (km .before .fits2 .ensures) ∙ not-false _ (km .if1 .left)) (sym (row .before .fits3 .ensures) ∙ not-false _ (row .if2 .left)) (c .fits4 .ensures)
 
 pub place-fits-spec : {M : Type 1} → statement M
 place-fits-spec =

@@ -3,13 +3,13 @@ use Prim.Native.Nat.{_-_, _≤_}
 use mathlib.Core.Path.{_≡_, refl, sym, ap, _∙_}
 use native.Mathlib.Omega.{arith}
 use lib.ListN.{length, length-set}
+use borrow.Author.Needs.{needs}
 use Rattle.lists.specs.Front.{over}
 use Rattle.lists.proofs.Fronts.{over-none, over-step}
 use Rattle.ledger.specs.declared.Ledger.{Ledger}
 use Rattle.ledger.specs.Ledger.{capacity}
 use Rattle.words.specs.Words.{wordAt, placeAt}
-use Rattle.words.proofs.Places.{fits-length, fits-place, fresh-length, read-whole}
-use borrow.Author.Needs.{needs}
+use Rattle.words.proofs.Places.{fits-length, fresh-length, read-whole}
 use Rattle.words.proofs.read_ledger.Statement.{statement}
 use Rattle.words.proofs.read_ledger.Tie as tie
 

@@ -2,14 +2,14 @@
 use Prim.Native.Nat.{_+_, _-_, _≤_}
 use mathlib.Core.Path.{_≡_, sym, _∙_}
 use native.Mathlib.Omega.{arith}
-use denote.Ref.{now}
 use lib.ListN.{length, length-set}
+use denote.Ref.{now}
+use borrow.Author.Needs.{needs}
 use Rattle.lists.specs.Front.{onto}
 use Rattle.ledger.specs.Ledger.{capacity}
 use Rattle.ledger.proofs.Whole.{places-whole}
 use Rattle.words.specs.Words.{ledgerLength}
 use Rattle.words.proofs.Places.{upTo, length-written, write-none, write-next, write-whole}
-use borrow.Author.Needs.{needs}
 use Rattle.words.proofs.write_ledger.Statement.{statement}
 use Rattle.words.proofs.write_ledger.Tie as tie
 
@@ -47,13 +47,14 @@ loop-less c = search needs
 
 loop-again : tie.Need-loop-again Inv-loop μ-loop
 loop-again c =
-    let st = c .before .before .before .before .before .before .before .before in
-    let lp = c .before .before .before .before .before .before .loop in
+    let t = c .before .before .before .before .before in
+    let lp = t .before .loop in
+    let st = t .before .before .before in
     let w = now (st .args .words) in
     let l = st .args .t1 in
     let whole = places-whole l _ (st .good .0) in
     let more : lp .i + 1 ≤ capacity = omega arith in
-    let next = c .before .before .write-place .ensures ∙ write-next w (l .places) (lp .inv .1) whole (lp .words) (lp .i) _ (c .before .before .before .before .before .loop-test .taken) (lp .inv .3) in
+    let next = c .before .before .write-place .ensures ∙ write-next w (l .places) (lp .inv .1) whole (lp .words) (lp .i) _ (t .loop-test .taken) (lp .inv .3) in
     (more, lp .inv .1, length-written w (l .places) (lp .inv .1) whole (lp .i + 1) _ more next, next)
 
 slice-write-words : tie.Need-slice-write-words Inv-loop μ-loop

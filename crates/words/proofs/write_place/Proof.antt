@@ -1,11 +1,9 @@
 -- Four stores, each within the words.
-use Prim.Native.Nat.{_+_, _<_}
-use mathlib.Core.Path.{_≡_}
 use native.Mathlib.Omega.{arith}
-use lib.ListN.{length, length-set}
+use lib.ListN.{length-set}
+use borrow.Author.Needs.{needs}
 use Rattle.words.specs.Words.{entryWords}
 use Rattle.words.proofs.General.{set-four}
-use borrow.Author.Needs.{needs}
 use Rattle.words.proofs.write_place.Statement.{statement}
 use Rattle.words.proofs.write_place.Tie as tie
 

@@ -1,11 +1,14 @@
 -- One store or two.
 use native.Mathlib.Omega.{arith}
 use lib.ListN.{length-set}
-use denote.Ref.{now}
 use borrow.Author.Needs.{needs}
 use Rattle.blocks.proofs.Cuts.{middle-small, room-one, room-two, halve-one, halve-two}
 use Rattle.blocks.proofs.pieces.halve_columns.Statement.{statement}
 use Rattle.blocks.proofs.pieces.halve_columns.Tie as tie
+
+-- the start, where the columns are compared
+abbrev start : tie.After-struct-known2 → tie.Start
+start c = c .before .before .before .before .before .before .before
 
 to-word-requires : tie.Need-to-word-requires
 to-word-requires c κs = search needs
@@ -14,10 +17,7 @@ mul-words : tie.Need-mul-words
 mul-words c = search needs
 
 slice-write-words : tie.Need-slice-write-words
-slice-write-words c =
-    let s = c .before .before .before .before .before .before .before .before .before in
-    let a = s .args in
-    room-one (a .block) (now (a .words)) (a .at) (s .pre) (c .before .if1 .taken)
+slice-write-words c = room-one _ _ _ (start (c .before .before) .pre) (c .before .if1 .taken)
 
 add-result : tie.Need-add-result
 add-result c = search needs
@@ -26,10 +26,7 @@ same-length : tie.Need-same-length
 same-length c = search needs
 
 returns : tie.Need-returns
-returns c =
-    let s = c .before .before .before .before .before .before .before .before .before in
-    let a = s .args in
-    halve-one (a .block) (now (a .words)) (a .at) (s .pre) (c .to-word .result) (c .before .if1 .taken) (c .to-word .ensures)
+returns c = halve-one _ _ _ (start (c .before .before) .pre) (c .to-word .result) (c .before .if1 .taken) (c .to-word .ensures)
 
 middle-requires : tie.Need-middle-requires
 middle-requires c κs = search needs
@@ -42,15 +39,13 @@ mul-words-2 c = search needs
 
 slice-write-words-2 : tie.Need-slice-write-words-2
 slice-write-words-2 c =
-    let s = c .before .before .before .before .before .before .before .before .before .before in
-    let a = s .args in
-    omega (arith, room-two (a .block) (now (a .words)) (a .at) (s .pre) (c .before .before .if1 .left))
+    let e = c .before .before in
+    omega (arith, room-two _ _ _ (start (e .before) .pre) (e .if1 .left))
 
 add-t18 : tie.Need-add-t18
 add-t18 c =
-    let s = c .before .before .before .before .before .before .before .before .before .before in
-    let a = s .args in
-    omega (arith, c .before .middle .ensures, middle-small (a .block .first .0) (a .block .last .0) (s .pre .first) (s .pre .last))
+    let s = start (c .before .before .before) in
+    omega (arith, c .before .middle .ensures, middle-small _ _ (s .pre .first) (s .pre .last))
 
 to-word-requires-3 : tie.Need-to-word-requires-3
 to-word-requires-3 c κs = search needs
@@ -63,9 +58,8 @@ mul-words-3 c = search needs
 
 slice-write-words-3 : tie.Need-slice-write-words-3
 slice-write-words-3 c =
-    let s = c .before .before .before .before .before .before .before .before .before .before .before in
-    let a = s .args in
-    simp length-set (room-two (a .block) (now (a .words)) (a .at) (s .pre) (c .before .before .before .if1 .left))
+    let e = c .before .before .before in
+    simp length-set (room-two _ _ _ (start (e .before) .pre) (e .if1 .left))
 
 add-result-2 : tie.Need-add-result-2
 add-result-2 c = search needs
@@ -76,10 +70,8 @@ same-length-2 c = search needs
 returns-2 : tie.Need-returns-2
 returns-2 c =
     let middle = c .before .before .middle in
-    let s = c .before .before .before .before .before .before .before .before .before .before .before in
-    let a = s .args in
-    halve-two (a .block) (now (a .words)) (a .at) (s .pre) (middle .result) (c .before .to-word2 .result) (c .to-word3 .result)
-    (c .before .before .before .if1 .left) (middle .ensures) (c .before .to-word2 .ensures) (c .to-word3 .ensures)
+    let e = c .before .before .before in
+    halve-two _ _ _ (start (e .before) .pre) (middle .result) _ _ (e .if1 .left) (middle .ensures) (c .before .to-word2 .ensures) (c .to-word3 .ensures)
 
 pub halve-columns-spec : {M : Type 1} → statement M
 halve-columns-spec =

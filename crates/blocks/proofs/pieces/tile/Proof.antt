@@ -1,12 +1,11 @@
 -- Invariant: the rows of tiles written and those left are the tiles.
-use Prim.Native.Nat.{_+_, _-_, _≤_, min}
-use mathlib.Core.Path.{_≡_}
+use Prim.Native.Nat.{_-_, _≤_}
 use native.Mathlib.Omega.{arith}
 use denote.Ref.{now}
 use borrow.Author.Needs.{needs}
 use Rattle.lists.proofs.Folds.{length-each}
 use Rattle.lists.proofs.Writes.{Writing}
-use Rattle.blocks.specs.Word.{wordOf}
+use Rattle.blocks.specs.State.{wordOf}
 use Rattle.blocks.specs.Block.{tile}
 use Rattle.blocks.proofs.TileWords.{tilesLeft, tilesWhole, tiles-start, tiles-room, tiles-step, tiles-done, tiles-of}
 use Rattle.blocks.proofs.pieces.tile.Statement.{statement}
@@ -17,6 +16,10 @@ Inv-loop spacing words₀ width height next₀ north₀ words next north = Writi
 
 abbrev μ-loop : tie.MeasureT-loop
 μ-loop spacing words₀ width height next₀ north₀ words next north = height - north
+
+-- the head of the loop
+abbrev head : tie.After-step-end Inv-loop μ-loop → tie.At-loop Inv-loop μ-loop
+head c = c .before .before
 
 loop-holds : tie.Need-loop-holds Inv-loop μ-loop
 loop-holds c =
@@ -34,11 +37,8 @@ step-end-requires c κs = search needs
 
 tile-row-requires : tie.Need-tile-row-requires Inv-loop μ-loop
 tile-row-requires c κs =
-    let s = c .before .before .before .before .before in
-    let a = s .args in
-    let l = c .before .before .before .loop in
-    tiles-room (a .grid .width) (a .grid .height) (a .spacing) (now (a .words)) (l .words) (l .next) (l .north) (l .inv .0)
-    (c .before .step-end .result) (c .before .before .loop-test .taken) (c .before .step-end .ensures)
+    let e = c .before in
+    tiles-room _ _ _ _ _ _ _ (head e .loop .inv .0) _ (e .before .loop-test .taken) (e .step-end .ensures)
 
 add-north : tie.Need-add-north Inv-loop μ-loop
 add-north c = search needs
@@ -48,35 +48,19 @@ loop-less c = search needs
 
 loop-again : tie.Need-loop-again Inv-loop μ-loop
 loop-again c =
-    let loop-test = c .before .before .before .before .before .loop-test in
-    let step-end = c .before .before .before .before .step-end in
-    let tile-row = c .before .before .tile-row in
-    let s = c .before .before .before .before .before .before .before .before in
-    let a = s .args in
-    let l = c .before .before .before .before .before .before .loop in
-    let e : step-end .result ≡ min (l .north + (a .spacing - 1))
-    (a .grid .height - 1) = step-end .ensures in (
-      tiles-step (a .grid .width) (a .grid .height) (a .spacing) (now (a .words)) (l .words) (l .next) (l .north) (l .inv .0)
-          (step-end .result) (tile-row .last .1 .1 .1 .1 .0) (tile-row .result)
-          (loop-test .taken) e (tile-row .ensures),
-      omega
-          (arith, loop-test .taken),
+    let e = c .before .before .before .before in
+    let r = c .before .before .tile-row in (
+      tiles-step _ _ _ _ _ _ _ (head e .loop .inv .0) _ (r .last .1 .1 .1 .1 .0) _ (e .before .loop-test .taken) (e .step-end .ensures) (r .ensures),
+      omega (arith, e .before .loop-test .taken, e .step-end .ensures),
     )
 
 same-length : tie.Need-same-length Inv-loop μ-loop
-same-length c =
-    let s = c .before .before .before in
-    let a = s .args in
-    let l = c .before .loop in
-    l .inv .0 .size
+same-length c = c .before .loop .inv .0 .size
 
 returns : tie.Need-returns Inv-loop μ-loop
 returns c =
-    let s = c .before .before .before in
-    let a = s .args in
-    let l = c .before .loop in
-    rw (← tiles-of (a .grid) (a .spacing)) (tiles-done (a .grid .width) (a .grid .height) (a .spacing) (now (a .words)) (l .words) (l .next)
-    (l .north) (l .inv .0) (c .loop-test .left))
+    let a = c .before .before .before .args in
+    rw (← tiles-of (a .grid) (a .spacing)) (tiles-done _ _ _ _ _ _ _ (c .before .loop .inv .0) (c .loop-test .left))
 
 pub tile-spec : {M : Type 1} → statement M
 tile-spec =

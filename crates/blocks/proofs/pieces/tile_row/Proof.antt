@@ -1,8 +1,7 @@
 -- Invariant: the tiles written and those left are the row.
-use Prim.Native.Nat.{_+_, _-_, _≤_, min}
-use mathlib.Core.Path.{_≡_}
+use Prim.Native.Nat.{_-_, _≤_, _<_}
 use native.Mathlib.Omega.{arith}
-use denote.Ref.{now}
+use lib.ListN.{length}
 use borrow.Author.Needs.{needs}
 use Rattle.lists.proofs.Writes.{Writing}
 use Rattle.blocks.specs.Block.{range}
@@ -16,10 +15,12 @@ Inv-loop width spacing north south words₀ at next₀ first₀ words next first
 abbrev μ-loop : tie.MeasureT-loop
 μ-loop width spacing north south words₀ at next₀ first₀ words next first = width - first
 
+-- a turn has room for its tile
+room : (c : tie.After-step-end Inv-loop μ-loop) → let l = c .before .before .loop in l .next < length (l .words)
+room c = row-room _ _ _ _ _ _ _ _ (c .before .before .loop .inv .0) _ (c .before .loop-test .taken) (c .step-end .ensures)
+
 loop-holds : tie.Need-loop-holds Inv-loop μ-loop
-loop-holds c =
-    let a = c .before .args in
-    (row-start (a .width) (a .spacing) (range (a .north) (a .south)) (now (a .words)) (a .at) (c .before .pre), search needs)
+loop-holds c = (row-start _ _ _ _ _ (c .before .pre), search needs)
 
 sub-step-end : tie.Need-sub-step-end Inv-loop μ-loop
 sub-step-end c = search needs
@@ -34,21 +35,10 @@ mul-words : tie.Need-mul-words Inv-loop μ-loop
 mul-words c = search needs
 
 slice-write-words : tie.Need-slice-write-words Inv-loop μ-loop
-slice-write-words c =
-    let s = c .before .before .before .before .before in
-    let a = s .args in
-    let l = c .before .before .before .loop in
-    row-room (a .width) (a .spacing) (range (a .north) (a .south)) (now (a .words)) (a .at) (l .words) (l .next) (l .first) (l .inv .0)
-    (c .before .step-end .result) (c .before .before .loop-test .taken) (c .before .step-end .ensures)
+slice-write-words c = room (c .before)
 
 add-next : tie.Need-add-next Inv-loop μ-loop
-add-next c =
-    let s = c .before .before .before .before .before in
-    let a = s .args in
-    let l = c .before .before .before .loop in
-    let h = row-room (a .width) (a .spacing) (range (a .north) (a .south)) (now (a .words)) (a .at) (l .words) (l .next) (l .first) (l .inv .0)
-    (c .before .step-end .result) (c .before .before .loop-test .taken) (c .before .step-end .ensures) in
-    search needs
+add-next c = let h = room (c .before) in search needs
 
 add-first : tie.Need-add-first Inv-loop μ-loop
 add-first c = search needs
@@ -58,31 +48,16 @@ loop-less c = search needs
 
 loop-again : tie.Need-loop-again Inv-loop μ-loop
 loop-again c =
-    let loop-test = c .before .before .loop-test in
-    let s = c .before .before .before .before .before in
-    let a = s .args in
-    let l = c .before .before .before .loop in
-    let e : c .before .step-end .result ≡ min (l .first + (a .spacing - 1)) (a .width - 1) = c .before .step-end .ensures in (
-      row-step (a .width) (a .spacing) (range (a .north) (a .south)) (now (a .words)) (a .at) (l .words) (l .next) (l .first) (l .inv .0)
-          (c .before .step-end .result) (c .to-word .result) (loop-test .taken) e (c .to-word .ensures),
-      omega
-          (arith, loop-test .taken),
+    let e = c .before in (
+      row-step _ _ _ _ _ _ _ _ (e .before .before .loop .inv .0) _ _ (e .before .loop-test .taken) (e .step-end .ensures) (c .to-word .ensures),
+      omega (arith, e .before .loop-test .taken, e .step-end .ensures),
     )
 
 same-length : tie.Need-same-length Inv-loop μ-loop
-same-length c =
-    let s = c .before .before .before in
-    let a = s .args in
-    let l = c .before .loop in
-    l .inv .0 .size
+same-length c = c .before .loop .inv .0 .size
 
 returns : tie.Need-returns Inv-loop μ-loop
-returns c =
-    let s = c .before .before .before in
-    let a = s .args in
-    let l = c .before .loop in
-    row-done (a .width) (a .spacing) (range (a .north) (a .south)) (now (a .words)) (a .at) (l .words) (l .next) (l .first) (l .inv .0)
-    (c .loop-test .left)
+returns c = row-done _ _ _ _ _ _ _ _ (c .before .loop .inv .0) (c .loop-test .left)
 
 pub tile-row-spec : {M : Type 1} → statement M
 tile-row-spec =

@@ -7,6 +7,10 @@ use Rattle.blocks.proofs.Tiles.{probe-held}
 use Rattle.bounds.proofs.bound.slack_km.Statement.{statement}
 use Rattle.bounds.proofs.bound.slack_km.Tie as tie
 
+-- once the slack's latitude is known
+abbrev probed : tie.After-greater → tie.After-probe
+probed g = g .before .before .before .before .before .before .before .before
+
 probe-requires : tie.Need-probe-requires
 probe-requires c κs = search needs
 
@@ -33,9 +37,9 @@ greater-requires c κs = search needs
 
 column-reach-requires : tie.Need-column-reach-requires
 column-reach-requires c κs =
-    let s = c .before .before .before .before .before .before .before .before .before .before in
+    let s = probed c .before .before in
     let h = probe-held (s .args .grid) (s .args .block) (s .pre .rectangle) in
-    rw (c .before .before .before .before .before .before .before .before .probe .ensures) (h .first, h .last)
+    rw (probed c .probe .ensures) (h .first, h .last)
 
 int-to-float-delta-lon : tie.Need-int-to-float-delta-lon
 int-to-float-delta-lon c = search needs
@@ -48,10 +52,10 @@ mul-hops c = search needs
 
 shared-slice-read-hops : tie.Need-shared-slice-read-hops
 shared-slice-read-hops c =
-    let s = c .before .before .before .before .before .before .before .before .before .before .before .before .before .before in
+    let p = probed (c .before .before .before .before) in
+    let s = p .before .before in
     let h = probe-held (s .args .grid) (s .args .block) (s .pre .rectangle) in
-    rw (c .before .before .before .before .before .before .before .before .before .before .before .before .probe .ensures) (omega
-    (arith, h .south, s .pre .rectangle .south, s .pre .complete))
+    rw (p .probe .ensures) (omega (arith, h .south, s .pre .rectangle .south, s .pre .complete))
 
 arc-km-requires : tie.Need-arc-km-requires
 arc-km-requires c κs = search needs
@@ -62,18 +66,20 @@ slack-margin-requires c κs = search needs
 returns : tie.Need-returns
 unfolding slackKm cosineAt
 returns c =
+    let r = c .before .before .before .before .before in
+    let g = r .before in
     simp (
       c .slack-margin .ensures,
       c .before .arc-km .ensures,
       c .before .before .before .abs3 .ensures,
-      c .before .before .before .before .before .column-reach .ensures,
-      c .before .before .before .before .before .before .greater .ensures,
-      c .before .before .before .before .before .before .before .abs2 .ensures,
-      c .before .before .before .before .before .before .before .before .before .abs .ensures,
-      c .before .before .before .before .before .before .before .before .centre-lat3 .ensures,
-      c .before .before .before .before .before .before .before .before .before .before .centre-lat2 .ensures,
-      c .before .before .before .before .before .before .before .before .before .before .before .centre-lat .ensures,
-      c .before .before .before .before .before .before .before .before .before .before .before .before .before .before .probe .ensures,
+      r .column-reach .ensures,
+      g .greater .ensures,
+      g .before .abs2 .ensures,
+      g .before .before .before .abs .ensures,
+      g .before .before .centre-lat3 .ensures,
+      g .before .before .before .before .centre-lat2 .ensures,
+      g .before .before .before .before .before .centre-lat .ensures,
+      probed g .probe .ensures,
     )
 
 pub slack-km-spec : {M : Type 1} → statement M

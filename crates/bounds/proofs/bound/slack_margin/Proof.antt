@@ -1,12 +1,12 @@
 -- Both sides are numbers.
 use mathlib.Core.Path.{refl}
-use Rattle.floats.specs.Binary.{floats}
+use Rattle.floats.specs.Binary.{open-floats}
 use Rattle.bounds.specs.Bound.{slackMargin}
 use Rattle.bounds.proofs.bound.slack_margin.Statement.{statement}
 use Rattle.bounds.proofs.bound.slack_margin.Tie as tie
 
 returns : tie.Need-returns
-unfolding slackMargin floats
+unfolding slackMargin open-floats
 returns c = refl
 
 pub slack-margin-spec : {M : Type 1} → statement M

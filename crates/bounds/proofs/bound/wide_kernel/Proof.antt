@@ -2,7 +2,7 @@
 use native.Mathlib.Omega.{arith}
 use denote.Ref.{now}
 use Rattle.blocks.proofs.Tiles.{probe-held}
-use Rattle.bounds.specs.Bound.{wideKernel}
+use Rattle.bounds.specs.State.{wideKernel}
 use Rattle.bounds.proofs.Shaped.{wide-sheet}
 use borrow.Author.Needs.{needs}
 use Rattle.bounds.proofs.bound.wide_kernel.Statement.{statement}

@@ -43,19 +43,22 @@ arc-km-requires-2 c κs = search needs
 returns : tie.Need-returns
 unfolding extentFits
 returns c =
+    let slack = c .before .before .before in
+    let arc = slack .before .before .before in
+    let longitude = arc .before .before .before in
     simp (
       c .arc-km2 .ensures,
       c .before .next-up6 .ensures,
       c .before .before .widened-by .ensures,
-      c .before .before .before .next-up5 .ensures,
-      c .before .before .before .before .slack-margin .ensures,
-      c .before .before .before .before .before .next-up4 .ensures,
-      c .before .before .before .before .before .before .arc-km .ensures,
-      c .before .before .before .before .before .before .before .next-up3 .ensures,
-      c .before .before .before .before .before .before .before .before .next-up2 .ensures,
-      c .before .before .before .before .before .before .before .before .before .longitude-extent .ensures,
-      c .before .before .before .before .before .before .before .before .before .before .next-up .ensures,
-      c .before .before .before .before .before .before .before .before .before .before .before .latitude-extent .ensures,
+      slack .next-up5 .ensures,
+      slack .before .slack-margin .ensures,
+      slack .before .before .next-up4 .ensures,
+      arc .arc-km .ensures,
+      arc .before .next-up3 .ensures,
+      arc .before .before .next-up2 .ensures,
+      longitude .longitude-extent .ensures,
+      longitude .before .next-up .ensures,
+      longitude .before .before .latitude-extent .ensures,
     )
 
 pub extent-fits-spec : {M : Type 1} → statement M

@@ -2,8 +2,7 @@
 use borrow.Author.Tests.{eq-eqb, ne-eqb}
 use borrow.Author.Needs.{needs}
 use Rattle.bounds.specs.Spacing.{latitudeExtent}
-use Rattle.grid.proofs.Literals.{literal-0}
-use Rattle.bounds.proofs.Literals.{literal-8}
+use Rattle.floats.proofs.Literals.{literal-0, literal-8}
 use Rattle.bounds.proofs.side.latitude_extent.Statement.{statement}
 use Rattle.bounds.proofs.side.latitude_extent.Tie as tie
 
@@ -41,15 +40,17 @@ next-up-requires-5 c κs = search needs
 returns-2 : tie.Need-returns-2
 unfolding latitudeExtent
 returns-2 c =
-    rw (ne-eqb _ _ (c .before .before .before .before .before .before .before .before .before .if1 .left))
+    let headroom = c .before .before .before in
+    let height = headroom .before .before .before in
+    rw (ne-eqb _ _ (height .before .before .before .if1 .left))
     (simp (
       c .next-up5 .ensures,
       c .before .next-up4 .ensures,
-      c .before .before .before .next-up3 .ensures,
-      c .before .before .before .before .next-up2 .ensures,
-      c .before .before .before .before .before .abs2 .ensures,
-      c .before .before .before .before .before .before .next-up .ensures,
-      c .before .before .before .before .before .before .before .before .abs .ensures,
+      headroom .next-up3 .ensures,
+      headroom .before .next-up2 .ensures,
+      headroom .before .before .abs2 .ensures,
+      height .next-up .ensures,
+      height .before .before .abs .ensures,
       literal-8,
     ))
 

@@ -2,7 +2,7 @@
 use borrow.Author.Tests.{eq-eqb, ne-eqb}
 use borrow.Author.Needs.{needs}
 use Rattle.bounds.specs.Spacing.{longitudeExtent}
-use Rattle.grid.proofs.Literals.{literal-0}
+use Rattle.floats.proofs.Literals.{literal-0}
 use Rattle.bounds.proofs.side.longitude_extent.Statement.{statement}
 use Rattle.bounds.proofs.side.longitude_extent.Tie as tie
 

@@ -1,5 +1,5 @@
 -- `climb::Bracket::closed`: each test by the bracket's kind.
-use Rattle.climb.specs.Next.{bracketClosed}
+use Rattle.climb.specs.State.{bracketClosed}
 use borrow.Author.Needs.{needs}
 use Rattle.climb.proofs.Bracket.closed.Statement.{statement}
 use Rattle.climb.proofs.Bracket.closed.Tie as tie

@@ -1,5 +1,5 @@
 -- `climb::Bracket::radius`: the middle, or the next radius of the climb.
-use Rattle.climb.specs.Next.{nextRadius}
+use Rattle.climb.specs.State.{nextRadius}
 use borrow.Author.Needs.{needs}
 use Rattle.climb.proofs.Bracket.radius.Statement.{statement}
 use Rattle.climb.proofs.Bracket.radius.Tie as tie

@@ -1,6 +1,6 @@
 -- The code is the definition.
 use mathlib.Core.Path.{refl}
-use Rattle.climb.specs.Next.{bracketStart}
+use Rattle.climb.specs.State.{bracketStart}
 use Rattle.climb.proofs.Bracket.start.Statement.{statement}
 use Rattle.climb.proofs.Bracket.start.Tie as tie
 

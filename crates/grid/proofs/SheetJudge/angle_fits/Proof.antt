@@ -1,8 +1,8 @@
 -- Each way out by its test.
 use borrow.Author.Needs.{needs}
 use borrow.Author.Tests.{eq-eqb, ne-eqb}
-use Rattle.grid.specs.Sheet.{angleFits}
-use Rattle.grid.proofs.Literals.{literal-0}
+use Rattle.grid.specs.Judge.{angleFits}
+use Rattle.floats.proofs.Literals.{literal-0}
 use Rattle.grid.proofs.SheetJudge.angle_fits.Statement.{statement}
 use Rattle.grid.proofs.SheetJudge.angle_fits.Tie as tie
 

@@ -1,7 +1,7 @@
 -- Each way out by its test.
 use borrow.Author.Needs.{needs}
 use borrow.Author.Tests.{lt-ltb, le-ltb}
-use Rattle.grid.specs.Sheet.{judgeFeed}
+use Rattle.grid.specs.Judge.{judgeFeed}
 use Rattle.grid.proofs.SheetJudge.feed.Statement.{statement}
 use Rattle.grid.proofs.SheetJudge.feed.Tie as tie
 

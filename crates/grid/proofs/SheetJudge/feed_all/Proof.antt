@@ -11,7 +11,7 @@ use borrow.Author.Needs.{needs}
 use Rattle.lists.specs.Lists.{fold}
 use Rattle.lists.proofs.Folds.{fold-more, fold-next}
 use Rattle.grid.specs.Grid.{closing}
-use Rattle.grid.specs.Sheet.{judgeFeed}
+use Rattle.grid.specs.Judge.{judgeFeed}
 use Rattle.grid.proofs.Judging.{grid-kept}
 use Rattle.grid.proofs.Runs.{ahead}
 use Rattle.grid.proofs.SheetJudge.feed_all.Statement.{statement}

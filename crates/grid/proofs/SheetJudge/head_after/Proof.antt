@@ -1,6 +1,6 @@
 -- Each way out by its test.
 use borrow.Author.Tests.{eq-eqb, ne-eqb}
-use Rattle.grid.specs.Sheet.{headAfter}
+use Rattle.grid.specs.Judge.{headAfter}
 use Rattle.grid.proofs.SheetJudge.head_after.Statement.{statement}
 use Rattle.grid.proofs.SheetJudge.head_after.Tie as tie
 

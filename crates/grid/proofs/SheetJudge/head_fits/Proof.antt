@@ -1,6 +1,6 @@
 -- Each way out by its test.
 use borrow.Author.Needs.{needs}
-use Rattle.grid.specs.Sheet.{headFits}
+use Rattle.grid.specs.Judge.{headFits}
 use Rattle.grid.proofs.General.{said-no, said-yes}
 use Rattle.grid.proofs.SheetJudge.head_fits.Statement.{statement}
 use Rattle.grid.proofs.SheetJudge.head_fits.Tie as tie

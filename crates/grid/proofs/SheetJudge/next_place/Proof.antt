@@ -1,7 +1,7 @@
 -- Each way out by its test.
 use borrow.Author.Needs.{needs}
 use borrow.Author.Tests.{lt-ltb, le-ltb}
-use Rattle.grid.specs.Sheet.{nextPlace}
+use Rattle.grid.specs.Judge.{nextPlace}
 use Rattle.grid.proofs.SheetJudge.next_place.Statement.{statement}
 use Rattle.grid.proofs.SheetJudge.next_place.Tie as tie
 

@@ -3,7 +3,7 @@ use Prim.Native.Nat.{_+_}
 use native.Mathlib.Omega.{arith}
 use borrow.Author.Needs.{needs}
 use borrow.Author.Tests.{lt-ltb, le-ltb}
-use Rattle.grid.specs.Sheet.{nextRow}
+use Rattle.grid.specs.Judge.{nextRow}
 use Rattle.grid.proofs.SheetJudge.next_row.Statement.{statement}
 use Rattle.grid.proofs.SheetJudge.next_row.Tie as tie
 

@@ -1,7 +1,7 @@
 -- Each way out by its test.
 use borrow.Author.Tests.{eq-eqb, ne-eqb}
-use Rattle.grid.specs.Sheet.{ownFits}
-use Rattle.grid.proofs.Literals.{literal-0}
+use Rattle.grid.specs.Judge.{ownFits}
+use Rattle.floats.proofs.Literals.{literal-0}
 use Rattle.grid.proofs.SheetJudge.own_fits.Statement.{statement}
 use Rattle.grid.proofs.SheetJudge.own_fits.Tie as tie
 

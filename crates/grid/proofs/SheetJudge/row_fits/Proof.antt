@@ -1,7 +1,7 @@
 -- Each way out by its tests.
 use borrow.Author.Needs.{needs}
 use borrow.Author.Tests.{eq-eqb, ne-eqb, le-leb, lt-leb}
-use Rattle.grid.specs.Sheet.{rowFits}
+use Rattle.grid.specs.Judge.{rowFits}
 use Rattle.grid.proofs.SheetJudge.row_fits.Statement.{statement}
 use Rattle.grid.proofs.SheetJudge.row_fits.Tie as tie
 

@@ -1,6 +1,6 @@
 -- The three tests.
 use borrow.Author.Needs.{needs}
-use Rattle.grid.specs.Sheet.{runAhead}
+use Rattle.grid.specs.State.{runAhead}
 use Rattle.grid.proofs.SheetJudge.run_ahead.Statement.{statement}
 use Rattle.grid.proofs.SheetJudge.run_ahead.Tie as tie
 

@@ -1,8 +1,8 @@
 -- Each way out by its tests.
 use borrow.Author.Needs.{needs}
-use Rattle.grid.specs.Sheet.{runFits}
+use Rattle.grid.specs.State.{runFits}
 use Rattle.grid.proofs.General.{said-no, said-yes}
-use Rattle.grid.proofs.Literals.{literal-0}
+use Rattle.floats.proofs.Literals.{literal-0}
 use Rattle.grid.proofs.SheetJudge.run_fits.Statement.{statement}
 use Rattle.grid.proofs.SheetJudge.run_fits.Tie as tie
 

@@ -1,6 +1,6 @@
 -- The literals are the definition's zeros.
-use Rattle.grid.specs.Sheet.{judgeStart}
-use Rattle.grid.proofs.Literals.{literal-0}
+use Rattle.grid.specs.Judge.{judgeStart}
+use Rattle.floats.proofs.Literals.{literal-0}
 use Rattle.grid.proofs.SheetJudge.start.Statement.{statement}
 use Rattle.grid.proofs.SheetJudge.start.Tie as tie
 

@@ -1,5 +1,5 @@
 -- Invariant: the judge has been fed the runs before `at`.
-use Prim.Native.Nat.{ℕ, _+_, _-_, _≤_, _<_}
+use Prim.Native.Nat.{ℕ, _+_, _-_, _≤_}
 use mathlib.Core.Path.{_≡_, sym, ap, subst, _∙_}
 use mathlib.Core.List.{List}
 use native.Mathlib.Omega.{arith}
@@ -10,7 +10,7 @@ use borrow.Author.Needs.{needs}
 use Rattle.lists.specs.Lists.{fold}
 use Rattle.grid.specs.declared.SheetJudge.{SheetJudge}
 use Rattle.grid.specs.Grid.{closing}
-use Rattle.grid.specs.Sheet.{judgeFeed}
+use Rattle.grid.specs.Judge.{judgeFeed}
 use Rattle.grid.proofs.General.{said-no}
 use Rattle.grid.proofs.Judging.{Between, between-start, between-run, run-inside, between-next, between-no, between-end}
 use Rattle.grid.proofs.judge.angles_in_order.Statement.{statement}
@@ -57,7 +57,7 @@ module _ (c : tie.Then1 Inv-loop μ-loop) where
   whole-run = ap (λ n. n + 1) (l .before .before .closing .ensures)
 
   inside : l .loop .at + run ≤ length xs
-  inside = rw whole-run (run-inside (l .loop .inv) (s .pre .size) (c .if1 .taken))
+  inside = rw whole-run (run-inside (l .loop .inv) (s .pre) (c .if1 .taken))
 
   cut : l .loop .at + run - l .loop .at ≡ run
   cut = omega arith
@@ -80,7 +80,7 @@ part-feed-run-end c = omega (arith, inside c)
 feed-run-requires : tie.Need-feed-run-requires Inv-loop μ-loop
 feed-run-requires c κs =
     let t = c .before in
-    rw (cut t, whole-run t) (between-run (l t .loop .inv) (s t .pre .size) (t .if1 .taken))
+    rw (cut t, whole-run t) (between-run (l t .loop .inv) (s t .pre) (t .if1 .taken))
 
 verdict-requires : tie.Need-verdict-requires Inv-loop μ-loop
 verdict-requires c κs = tt
@@ -93,7 +93,7 @@ more c =
     let fed : ℕ → SheetJudge = λ n. fold judgeFeed (l t .loop .judge) (take n (drop (l t .loop .at) (xs t))) in
     subst (λ (j : SheetJudge). Between (s t .args .grid) (xs t) (l t .loop .at + run t) j) (sym (c .feed-run .ensures ∙ ap fed (cut t)))
     (subst (λ n. Between (s t .args .grid) (xs t) (l t .loop .at + n) (fed n)) (sym (whole-run t))
-    (between-next (l t .loop .inv) (s t .pre .size) (t .if1 .taken)))
+    (between-next (l t .loop .inv) (s t .pre) (t .if1 .taken)))
 
 returns : tie.Need-returns Inv-loop μ-loop
 returns c = sym (between-no (more (c .before .before)) (said-no (c .before .verdict .ensures) (c .if2 .taken)))
@@ -113,7 +113,7 @@ verdict-requires-2 c κs = tt
 returns-2 : tie.Need-returns-2 Inv-loop μ-loop
 returns-2 c =
     let l = c .before .before .before .before in
-    c .verdict2 .ensures ∙ sym (between-end (l .loop .inv) (l .before .before .before .before .pre .size) (c .before .if1 .left))
+    c .verdict2 .ensures ∙ sym (between-end (l .loop .inv) (l .before .before .before .before .pre) (c .before .if1 .left))
 
 pub angles-in-order-spec : {M : Type 1} → statement M
 angles-in-order-spec =

@@ -10,7 +10,7 @@ use denote.Ref.{now}
 use borrow.Author.Needs.{needs}
 use Rattle.lists.specs.Counted.{allBelow}
 use Rattle.lists.proofs.All.{all-none, all-plus-one}
-use Rattle.grid.specs.Sheet.{notFalling}
+use Rattle.grid.specs.State.{notFalling}
 use Rattle.grid.proofs.judge.not_falling.Statement.{statement}
 use Rattle.grid.proofs.judge.not_falling.Tie as tie
 

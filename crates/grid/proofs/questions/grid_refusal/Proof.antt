@@ -2,9 +2,9 @@
 use mathlib.Core.Path.{_≡_}
 use mathlib.Core.Bool.{true}
 use borrow.Author.Needs.{needs}
-use Rattle.grid.specs.Answer.{firstNo}
 use Rattle.grid.specs.Questions.{sizesInRange, latitudesInRange, gridQuestions}
 use Rattle.grid.proofs.General.{said-no, said-yes}
+use Rattle.grid.proofs.Answers.{asked-yes, asked-no, asked-none}
 use Rattle.grid.proofs.questions.grid_refusal.Statement.{statement}
 use Rattle.grid.proofs.questions.grid_refusal.Tie as tie
 
@@ -18,30 +18,30 @@ sizes-in-range-requires : tie.Need-sizes-in-range-requires
 sizes-in-range-requires c κs = search needs
 
 returns : tie.Need-returns
-unfolding gridQuestions firstNo
-returns c = simp (said-no (c .before .sizes-in-range .ensures) (c .if1 .taken))
+unfolding gridQuestions
+returns c = asked-no _ (said-no (c .before .sizes-in-range .ensures) (c .if1 .taken))
 
 latitudes-in-range-requires : tie.Need-latitudes-in-range-requires
 latitudes-in-range-requires c κs = search needs
 
 returns-2 : tie.Need-returns-2
-unfolding gridQuestions firstNo
-returns-2 c = simp (yes-1 (c .before .before), said-no (c .before .latitudes-in-range .ensures) (c .if2 .taken))
+unfolding gridQuestions
+returns-2 c = asked-yes 1 _ (yes-1 (c .before .before)) (asked-no _ (said-no (c .before .latitudes-in-range .ensures) (c .if2 .taken)))
 
 columns-close-requires : tie.Need-columns-close-requires
 columns-close-requires c κs = search needs
 
 returns-3 : tie.Need-returns-3
-unfolding gridQuestions firstNo
+unfolding gridQuestions
 returns-3 c =
     let e = c .before .before in
-    simp (yes-1 (e .before .before), yes-2 e, said-no (c .before .columns-close .ensures) (c .if3 .taken))
+    asked-yes 1 _ (yes-1 (e .before .before)) (asked-yes 2 _ (yes-2 e) (asked-no _ (said-no (c .before .columns-close .ensures) (c .if3 .taken))))
 
 returns-4 : tie.Need-returns-4
-unfolding gridQuestions firstNo
+unfolding gridQuestions
 returns-4 c =
     let e = c .before .before in
-    simp (yes-1 (e .before .before), yes-2 e, said-yes (c .before .columns-close .ensures) (c .if3 .left))
+    asked-yes 1 _ (yes-1 (e .before .before)) (asked-yes 2 _ (yes-2 e) (asked-yes 3 _ (said-yes (c .before .columns-close .ensures) (c .if3 .left)) asked-none))
 
 pub grid-refusal-spec : {M : Type 1} → statement M
 grid-refusal-spec =

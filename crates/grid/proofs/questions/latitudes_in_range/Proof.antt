@@ -5,7 +5,7 @@ use borrow.Author.Needs.{needs}
 use Rattle.floats.specs.Binary.{finite}
 use Rattle.grid.specs.Questions.{latitudesInRange}
 use Rattle.grid.proofs.General.{said-no, said-yes}
-use Rattle.grid.proofs.Literals.{literal-0}
+use Rattle.floats.proofs.Literals.{literal-0}
 use Rattle.grid.proofs.questions.latitudes_in_range.Statement.{statement}
 use Rattle.grid.proofs.questions.latitudes_in_range.Tie as tie
 

@@ -1,5 +1,5 @@
 -- Each way out by its test.
-use Rattle.grid.proofs.Literals.{literal-0, literal-1}
+use Rattle.floats.proofs.Literals.{literal-0, literal-1}
 use Rattle.grid.proofs.sheet.cosine_in_range.Statement.{statement}
 use Rattle.grid.proofs.sheet.cosine_in_range.Tie as tie
 

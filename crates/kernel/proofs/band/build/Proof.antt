@@ -1,13 +1,24 @@
 -- `kernel::band::build`: the empty kernel at radius 0, and otherwise what the two walks and the marking of runs leave.
 use mathlib.Core.Path.{refl, _∙_}
 use denote.Ref.{now}
-use Rattle.grid.proofs.Literals.{literal-0}
-use Rattle.kernel.specs.Kernel.{sheetOf}
+use Rattle.floats.proofs.Literals.{literal-0}
+use Rattle.grid.specs.Map.{sheetOf}
 use Rattle.kernel.proofs.Reaches.{sheet-high, sheet-beyond}
 use Rattle.kernel.proofs.Built.{built-empty, built-outline, built-walked}
 use borrow.Author.Needs.{needs}
 use Rattle.kernel.proofs.band.build.Statement.{statement}
 use Rattle.kernel.proofs.band.build.Tie as tie
+
+-- once both walks are made
+module _ (w : tie.After-walk-south) where
+  abbrev north : tie.After-walk-north
+  north = w .before .before .before
+
+  abbrev limit : tie.After-angle-of
+  limit = north .before .before .before
+
+  abbrev st : tie.Start
+  st = limit .before .before .before
 
 returns : tie.Need-returns
 returns c =
@@ -41,31 +52,24 @@ slice-aggregate-mark-2 c = search needs
 
 mark-requires : tie.Need-mark-requires
 mark-requires c κs =
-    let w = c .before .before .before .walk-south in
-    let n = c .before .before .before .before .before .before .walk-north in
-    let limit = c .before .before .before .before .before .before .before .before .before .angle-of in
-    let left = c .before .before .before .before .before .before .before .before .before .before .if1 .left in
-    let st = c .before .before .before .before .before .before .before .before .before .before .before .before in
-    let a = st .args in (
-      built-outline (sheetOf (a .grid) (now (a .angles))) (a .row) (a .km) (sheet-high (st .pre .sheet)) (st .pre .on)
-          (rw literal-0 at left) (sheet-beyond (st .pre .sheet) (a .row) (st .pre .on) _)
-          _ _ _ _ (rw (limit .ensures) at (n .ensures)) (rw (limit .ensures) at (w .ensures)) (w .kept .1 .1 .1 .1 .1 .0 ∙ n .kept .1 .1 .1 .1 .1 .0),
+    let w = c .before .before .before in
+    let p = st w .pre in
+    let a = st w .args in (
+      built-outline (sheetOf (a .grid) (now (a .angles))) (a .row) (a .km) (sheet-high (p .sheet)) (p .on)
+          (rw literal-0 at (limit w .before .if1 .left)) (limit w .angle-of .ensures) (sheet-beyond (p .sheet) (a .row) (p .on) (limit w .angle-of .result))
+          (north w .walk-north .ensures) (w .walk-south .ensures) (w .walk-south .kept .1 .1 .1 .1 .1 .0 ∙ north w .walk-north .kept .1 .1 .1 .1 .1 .0),
       refl,
     )
 
 returns-2 : tie.Need-returns-2
 returns-2 c =
     let k = c .before .mark in
-    let w = c .before .before .before .before .before .walk-south in
-    let n = c .before .before .before .before .before .before .before .before .walk-north in
-    let limit = c .before .before .before .before .before .before .before .before .before .before .before .angle-of in
-    let left = c .before .before .before .before .before .before .before .before .before .before .before .before .if1 .left in
-    let st = c .before .before .before .before .before .before .before .before .before .before .before .before .before .before in
-    let a = st .args in
-    built-walked (sheetOf (a .grid) (now (a .angles))) (a .row) (a .km) (sheet-high (st .pre .sheet)) (st .pre .on)
-    (rw literal-0 at left) (sheet-beyond (st .pre .sheet) (a .row) (st .pre .on) _)
-    _ _ _ _ (rw (limit .ensures) at (n .ensures)) (rw (limit .ensures) at (w .ensures))
-    _ (k .ensures) (w .kept .1 .1 .1 .1 .1 .0 ∙ n .kept .1 .1 .1 .1 .1 .0) (k .kept .1 .1 .1 .0)
+    let w = c .before .before .before .before .before in
+    let p = st w .pre in
+    let a = st w .args in
+    built-walked (sheetOf (a .grid) (now (a .angles))) (a .row) (a .km) (sheet-high (p .sheet)) (p .on)
+    (rw literal-0 at (limit w .before .if1 .left)) (limit w .angle-of .ensures) (sheet-beyond (p .sheet) (a .row) (p .on) (limit w .angle-of .result))
+    (north w .walk-north .ensures) (w .walk-south .ensures) (k .ensures) (w .walk-south .kept .1 .1 .1 .1 .1 .0 ∙ north w .walk-north .kept .1 .1 .1 .1 .1 .0) (k .kept .1 .1 .1 .0)
 
 pub build-spec : {M : Type 1} → statement M
 build-spec =

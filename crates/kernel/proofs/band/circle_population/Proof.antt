@@ -3,36 +3,19 @@ use Prim.Native.Nat.{ℕ, _+_, _-_, _≤_, _<_}
 use mathlib.Core.Path.{_≡_, sym, ap, _∙_}
 use native.Mathlib.Omega.{arith}
 use denote.Ref.{now}
-use lib.ListN.{getD}
 use Rattle.lists.specs.Counted.{sumBelow}
-use Rattle.table.specs.Summed.{tableMap}
+use Rattle.sums.specs.State.{tableMap}
 use Rattle.kernel.proofs.People.{reachPeople, people-run, people-total, people-north, people-all}
 use borrow.Author.Needs.{needs}
 use Rattle.kernel.proofs.band.circle_population.Statement.{statement}
 use Rattle.kernel.proofs.band.circle_population.Tie as tie
 
 abbrev Inv-loop : tie.InvT-loop
-Inv-loop grid sums north end reach run col people₀ row₀ people row =
-    (north ≤ row) × (row ≤ end) × (people ≡ sumBelow row (reachPeople (tableMap grid sums) col reach))
+Inv-loop grid sums north end reach run col population₀ row₀ population row =
+    (north ≤ row) × (row ≤ end) × (population ≡ sumBelow row (reachPeople (tableMap grid sums) col reach))
 
 abbrev μ-loop : tie.MeasureT-loop
-μ-loop grid sums north end reach run col people₀ row₀ people row = end - row
-
--- a turn adds the people of its run
-next : (c : tie.After-band-span Inv-loop μ-loop) → let a = c .before .before .before .before .before .before .before .before .args in
-    c .before .before .before .before .before .before .loop .people + c .band-span .result
-    ≡ sumBelow (c .before .wide2 .result) (reachPeople (tableMap (a .grid) (now (a .sums))) (a .col) (now (a .reach)))
-next c =
-    let l = c .before .before .before .before .before .before .loop in
-    let st = c .before .before .before .before .before .before .before .before in
-    let a = st .args in
-    let t = c .before .before .before .before .before .loop-test .taken in
-    let r = st .pre .runs in
-    let to = r .within (l .row) (l .inv .0) t in
-    let run =
-    people-run (tableMap (a .grid) (now (a .sums))) (a .col) (now (a .reach)) (l .row) (getD (now (a .run)) (l .row) 0)
-    (r .onward (l .row) (l .inv .0) t) (omega (arith, st .pre .band .on)) (st .pre .band .touched (l .row) (l .inv .0) t) (r .alike (l .row) (l .inv .0) t) in
-    rw (c .before .wide2 .ensures) (omega (arith, l .inv .2, rw (c .before .before .before .wide .ensures, c .before .wide2 .ensures) at (c .band-span .ensures), run))
+μ-loop grid sums north end reach run col population₀ row₀ population row = end - row
 
 -- where the turn's run ends
 module _ (c : tie.After-wide2 Inv-loop μ-loop) where
@@ -53,6 +36,21 @@ module _ (c : tie.After-wide2 Inv-loop μ-loop) where
 
   touched : 0 < c .before .before .wide .result
   touched = omega (arith, c .before .before .wide .ensures, st .pre .band .touched (l .loop .row) (l .loop .inv .0) taken)
+
+-- a turn adds the people of its run
+next : (c : tie.After-band-span Inv-loop μ-loop) → let a = st (c .before) .args in
+    l (c .before) .loop .population + c .band-span .result
+    ≡ sumBelow (c .before .wide2 .result) (reachPeople (tableMap (a .grid) (now (a .sums))) (a .col) (now (a .reach)))
+next c =
+    let w = c .before in
+    let l = l w .loop in
+    let p = st w .pre in
+    let a = st w .args in
+    let run =
+    people-run (tableMap (a .grid) (now (a .sums))) (a .col) (now (a .reach)) (l .row) (w .wide2 .result) (w .before .before .wide .result)
+    (onward w) (omega (arith, within w, p .band .on)) (touched w)
+    (λ i h u. p .runs .alike (l .row) (l .inv .0) (taken w) i h (omega (arith, w .wide2 .ensures)) ∙ sym (w .before .before .wide .ensures)) in
+    omega (arith, l .inv .2, c .band-span .ensures, run)
 
 loop-holds : tie.Need-loop-holds Inv-loop μ-loop
 loop-holds c =
@@ -88,8 +86,8 @@ band-span-requires : tie.Need-band-span-requires Inv-loop μ-loop
 band-span-requires c κs =
     (st c .pre .table, record { ordered = omega (arith, onward c); south = omega (arith, onward c, within c, st c .pre .band .on); col = st c .pre .on })
 
-add-people : tie.Need-add-people Inv-loop μ-loop
-add-people c =
+add-population : tie.Need-add-population Inv-loop μ-loop
+add-population c =
     let st = st (c .before) in
     let a = st .args in
     let all = people-total (tableMap (a .grid) (now (a .sums))) (a .col) (now (a .reach)) (c .before .wide2 .result) (omega (arith, st .pre .band .on, within (c .before))) in
@@ -99,7 +97,7 @@ loop-less : tie.Need-loop-less Inv-loop μ-loop
 loop-less c = omega (arith, onward (c .before))
 
 loop-again : tie.Need-loop-again Inv-loop μ-loop
-loop-again c = (omega (arith, c .before .before .before .before .before .before .loop .inv .0, onward (c .before)), within (c .before), next c)
+loop-again c = (omega (arith, l (c .before) .loop .inv .0, onward (c .before)), within (c .before), next c)
 
 returns : tie.Need-returns Inv-loop μ-loop
 returns c =
@@ -126,7 +124,7 @@ circle-population-spec =
     sub-band-span
     sub-band-span-2
     band-span-requires
-    add-people
+    add-population
     loop-less
     loop-again
     returns)

@@ -1,7 +1,7 @@
 -- `kernel::call::circle`: refused with nothing written, or accepted, filled, built and summed.
 use mathlib.Core.Path.{sym, _∙_}
 use denote.Ref.{now}
-use Rattle.grid.specs.Map.{Map}
+use Rattle.grid.specs.Map.{Map, lentMap}
 use Rattle.kernel.specs.Call.{circleAnswer}
 use Rattle.kernel.proofs.Calls.{CirclePassed, circle-passed, circle-refused, circle-answered}
 use Rattle.kernel.proofs.Placing.{rows-placed, rows-people}
@@ -16,23 +16,29 @@ circle-refusal-requires c κs = search needs
 same-length : tie.Need-same-length
 same-length c = search needs
 
-returns : tie.Need-returns
-unfolding circleAnswer
-returns c = let asked = c .before .circle-refusal in circle-refused _ _ _ _ (asked .result) (asked .ensures) (c .if1 .taken)
-
--- past the questions
-abbrev start : tie.Else1 → tie.Start
-start e = e .before .before .before .before .before .before .before
+-- once the questions are put
+abbrev start : tie.After-circle-refusal → tie.Start
+start q = q .before .before .before .before .before .before
 
 abbrev given : tie.Start → Map
-given st =
-    record {
-      globe = record { grid = st .args .grid; angles = now (st .args .angles); cosines = now (st .args .cosines) };
-      counts = now (st .args .counts);
-    }
+given st = lentMap (st .args .grid) (now (st .args .counts)) (now (st .args .angles)) (now (st .args .cosines))
 
-passed : (e : tie.Else1) → CirclePassed (given (start e)) (now (start e .args .sums)) (start e .args .km) (start e .args .centre)
+returns : tie.Need-returns
+unfolding circleAnswer
+returns c =
+    let asked = c .before .circle-refusal in
+    let st = start (c .before) in
+    circle-refused (given st) (now (st .args .sums)) (st .args .km) (st .args .centre) (asked .result) (asked .ensures) (c .if1 .taken)
+
+-- past the questions, with the sums filled, and with the kernel built
+passed : (e : tie.Else1) → let st = start (e .before) in CirclePassed (given st) (now (st .args .sums)) (st .args .km) (st .args .centre)
 passed e = circle-passed _ _ _ _ (sym (e .before .circle-refusal .ensures) ∙ e .if1 .left)
+
+abbrev filled : tie.After-build → tie.After-fill-sums
+filled b = b .before .before .before .before
+
+abbrev built : tie.After-circle-population-arg3 → tie.After-build
+built c = c .before .before .before .before
 
 fill-sums-requires : tie.Need-fill-sums-requires
 fill-sums-requires c κs = to-fill (passed (c .before))
@@ -45,11 +51,11 @@ build-requires c κs = to-build (passed (c .before .before .before .before .befo
 
 circle-population-requires : tie.Need-circle-population-requires
 circle-population-requires c κs =
-    let e = c .before .before .before .before .before .before .before .before .before .before in
-    let filled = c .before .before .before .before .before .before .before .before .fill-sums in
-    let built = c .before .before .before .before .build in
+    let b = built c in
+    let f = filled b in
+    let e = f .before .before in
     let counts = e .before .before .before .before .before .before .shared-slice-known in
-    rows-placed (to-sum (passed e) _ (filled .ensures) _ (built .ensures) (λ i. counts .given i .fits))
+    rows-placed (to-sum (passed e) _ (f .fill-sums .ensures) _ (b .build .ensures) (λ i. counts .given i .fits))
 
 same-length-2 : tie.Need-same-length-2
 same-length-2 c = search needs
@@ -57,12 +63,12 @@ same-length-2 c = search needs
 returns-2 : tie.Need-returns-2
 unfolding circleAnswer
 returns-2 c =
-    let e = c .before .before .before .before .before .before .before .before .before .before .before in
-    let filled = c .before .before .before .before .before .before .before .before .before .fill-sums in
-    let built = c .before .before .before .before .before .build in
+    let b = built (c .before) in
+    let f = filled b in
+    let e = f .before .before in
     circle-answered _ _ _ _ _ _ (sym (e .before .circle-refusal .ensures) ∙ e .if1 .left)
-    (c .circle-population .ensures ∙ rows-people _ (built .result) _ ∙ summed-up (passed e) _ (filled .ensures) _ (built .ensures))
-    (sums-filled (passed e) _ (filled .ensures) _ (built .ensures))
+    (c .circle-population .ensures ∙ rows-people _ (b .build .result) _ ∙ summed-up (passed e) _ (f .fill-sums .ensures) _ (b .build .ensures))
+    (sums-filled (passed e) _ (f .fill-sums .ensures) _ (b .build .ensures))
 
 pub circle-spec : {M : Type 1} → statement M
 circle-spec =

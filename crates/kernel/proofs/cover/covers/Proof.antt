@@ -8,13 +8,14 @@ use lib.ListN.{getD}
 use Rattle.lists.specs.Counted.{allBelow}
 use Rattle.lists.proofs.All.{all-none, all-more}
 use Rattle.grid.proofs.Sizes.{grid-sizes}
+use Rattle.kernel.specs.Kernel.{rowPlaces}
 use Rattle.kernel.proofs.WholeGrid.{covers-yes, covers-no}
 use borrow.Author.Needs.{needs}
 use Rattle.kernel.proofs.cover.covers.Statement.{statement}
 use Rattle.kernel.proofs.cover.covers.Tie as tie
 
 abbrev Inv-loop : tie.InvT-loop
-Inv-loop reach closing height r₀ r = (r ≤ height) × (height ≤ 90) × (allBelow r (λ i. ltb closing (getD reach i 0)) ≡ true)
+Inv-loop reach closing height r₀ r = (r ≤ height) × (height ≤ rowPlaces) × (allBelow r (λ i. ltb closing (getD reach i 0)) ≡ true)
 
 abbrev μ-loop : tie.MeasureT-loop
 μ-loop reach closing height r₀ r = height - r

@@ -4,7 +4,7 @@ use mathlib.Core.Path.{_≡_, sym, _∙_}
 use mathlib.Core.Bool.{true}
 use native.Mathlib.Nat.{add-sub-cancel}
 use native.Mathlib.Omega.{arith}
-use Rattle.kernel.specs.Walk.{passes}
+use Rattle.kernel.specs.State.{passes}
 use borrow.Author.Needs.{needs}
 use Rattle.kernel.proofs.outward.grown.Statement.{statement}
 use Rattle.kernel.proofs.outward.grown.Tie as tie

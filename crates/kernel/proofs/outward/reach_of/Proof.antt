@@ -7,8 +7,9 @@ use native.Mathlib.Omega.{arith}
 use lib.ListN.{length}
 use denote.Ref.{now}
 use Rattle.grid.specs.Grid.{closing}
-use Rattle.kernel.specs.Kernel.{reach, sheetOf}
-use Rattle.kernel.specs.Walk.{passes, Edge}
+use Rattle.kernel.specs.Kernel.{reach}
+use Rattle.grid.specs.Map.{sheetOf}
+use Rattle.kernel.specs.State.{passes, Edge}
 use Rattle.kernel.proofs.Reaches.{sheet-wide}
 use Rattle.kernel.proofs.Edges.{edge-wider, apart, place-of, place-fits, edge-reach}
 use borrow.Author.Needs.{needs}

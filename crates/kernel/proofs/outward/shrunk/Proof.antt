@@ -3,7 +3,7 @@ use Prim.Native.Nat.{_≤_, _<_}
 use mathlib.Core.Path.{_≡_, sym, _∙_}
 use mathlib.Core.Bool.{false}
 use native.Mathlib.Omega.{arith}
-use Rattle.kernel.specs.Walk.{passes}
+use Rattle.kernel.specs.State.{passes}
 use borrow.Author.Needs.{needs}
 use Rattle.kernel.proofs.outward.shrunk.Statement.{statement}
 use Rattle.kernel.proofs.outward.shrunk.Tie as tie

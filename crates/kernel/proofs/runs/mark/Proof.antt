@@ -6,7 +6,8 @@ use denote.Ref.{now}
 use lib.Dec.{eqb}
 use lib.ListN.{length, getD, length-set}
 use Rattle.lists.proofs.Bools.{cond-case}
-use Rattle.kernel.specs.Walk.{Filled, runIn}
+use Rattle.kernel.specs.Kernel.{rowPlaces}
+use Rattle.kernel.specs.State.{Filled, runIn}
 use Rattle.kernel.proofs.Walks.{filled-none, filled-before}
 use Rattle.kernel.proofs.RowRuns.{run-next, run-onward}
 use borrow.Author.Needs.{needs}
@@ -15,28 +16,35 @@ use Rattle.kernel.proofs.runs.mark.Tie as tie
 
 abbrev Inv-loop : tie.InvT-loop
 Inv-loop reaches north end runs₀ row₀ to₀ below₀ runs row to below =
-    (length runs ≡ length runs₀) × (north ≤ row) × (row ≤ end) × (to ≤ 90) × (below ≡ getD reaches row 0) × (0 < below → to ≡ runIn reaches row)
+    (length runs ≡ length runs₀) × (north ≤ row) × (row ≤ end) × (to ≤ rowPlaces) × (below ≡ getD reaches row 0) × (0 < below → to ≡ runIn reaches row)
     × Filled (runIn reaches) row end runs₀ runs
 
 abbrev μ-loop : tie.MeasureT-loop
 μ-loop reaches north end runs₀ row₀ to₀ below₀ runs row to below = row
 
 -- the run of the row that is next
-marked : (c : tie.After-run-of Inv-loop μ-loop)
-    → c .run-of .result ≡ runIn (now (c .before .before .before .before .before .before .args .reaches)) (c .before .before .before .loop .row - 1)
-marked c =
-    let st = c .before .before .before .before .before .before in
-    let l = c .before .before .before .loop in
-    let p = st .pre .0 in
-    c .run-of .ensures
-    ∙ run-next (now (st .args .reaches)) (l .row - 1) (l .row) _ (l .below) (l .to) (omega arith) (omega (arith, l .inv .2, p .on)) refl
-    (p .touched (l .row - 1) (omega arith) (omega (arith, l .inv .2))) (l .inv .4) (l .inv .5)
+module _ (c : tie.After-run-of Inv-loop μ-loop) where
+  abbrev at : tie.At-loop Inv-loop μ-loop
+  at = c .before .before .before
 
-small : (c : tie.After-run-of Inv-loop μ-loop) → c .run-of .result ≤ 90
-small c =
-    let st = c .before .before .before .before .before .before in
-    let l = c .before .before .before .loop in
-    rw (c .run-of .ensures) (cond-case (λ (n : ℕ). n ≤ 90) (eqb (l .below) _) (l .to) (l .row - 1 + 1) (λ e. l .inv .3) (λ e. omega (arith, l .inv .2, st .pre .0 .on)))
+  abbrev st : tie.Start Inv-loop μ-loop
+  st = at .before .before .before
+
+  marked : c .run-of .result ≡ runIn (now (st .args .reaches)) (at .loop .row - 1)
+  marked =
+      let l = at .loop in
+      let p = st .pre .0 in
+      c .run-of .ensures
+      ∙ run-next (now (st .args .reaches)) (l .row - 1) (l .row) _ (l .below) (l .to) (omega arith) (omega (arith, l .inv .2, p .on)) refl
+      (p .touched (l .row - 1) (omega arith) (omega (arith, l .inv .2))) (l .inv .4) (l .inv .5)
+
+  small : c .run-of .result ≤ rowPlaces
+  small =
+      let l = at .loop in
+      rw (c .run-of .ensures) (cond-case (λ (n : ℕ). n ≤ rowPlaces) (eqb (l .below) _) (l .to) (l .row - 1 + 1) (λ e. l .inv .3) (λ e. omega (arith, l .inv .2, st .pre .0 .on)))
+
+  room : at .loop .row - 1 < length (at .loop .runs)
+  room = omega (arith, st .pre .0 .on, st .pre .1, at .loop .inv .0, at .loop .inv .2)
 
 loop-holds : tie.Need-loop-holds Inv-loop μ-loop
 loop-holds c = let p = c .before .before .pre .0 in (refl, p .ordered, omega arith, p .on, sym (p .missed), λ h. absurd (omega arith), filled-none _ _)
@@ -62,26 +70,22 @@ cast-runs-2 : tie.Need-cast-runs-2 Inv-loop μ-loop
 cast-runs-2 c = search needs
 
 slice-write-runs : tie.Need-slice-write-runs Inv-loop μ-loop
-slice-write-runs c =
-    let st = c .before .before .before .before .before .before in
-    let l = c .before .before .before .loop in
-    omega (arith, st .pre .0 .on, st .pre .1, l .inv .0, l .inv .2)
+slice-write-runs c = room c
 
 loop-less : tie.Need-loop-less Inv-loop μ-loop
 loop-less c = search needs
 
 loop-again : tie.Need-loop-again Inv-loop μ-loop
 loop-again c =
-    let st = c .before .before .before .before .before .before in
-    let l = c .before .before .before .loop in
-    let room : l .row - 1 < length (l .runs) = omega (arith, st .pre .0 .on, st .pre .1, l .inv .0, l .inv .2) in (
+    let l = at c .loop in (
       simp length-set (l .inv .0),
       omega arith,
       omega (arith, l .inv .2),
       small c,
       refl,
       λ h. marked c,
-      filled-before (l .inv .6) (l .row - 1) (c .run-of .result) room (marked c) (omega (arith, marked c, run-onward (λ r. getD (now (st .args .reaches)) r 0) (90 - (l .row - 1)) (l .row - 1))) (omega arith),
+      filled-before (l .inv .6) (l .row - 1) (c .run-of .result) (room c) (marked c)
+          (omega (arith, marked c, run-onward (λ r. getD (now (st c .args .reaches)) r 0) (rowPlaces - (l .row - 1)) (l .row - 1))) (omega arith),
     )
 
 same-length : tie.Need-same-length Inv-loop μ-loop

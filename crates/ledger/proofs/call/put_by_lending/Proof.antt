@@ -16,9 +16,9 @@ use Rattle.ledger.proofs.call.put_lent as put
 use Rattle.ledger.proofs.call.put_lent.Symbol as put-def
 use Rattle.ledger.proofs.call.put_lent.Symbol.{name as #put-lent}
 use Rattle.ledger.proofs.call.put_lent.Met as put-thm
-use Rattle.walks.proofs.Walks.{refl, ℕ, [], _∷_, URA, fullShare, Val, vptr, named, SProp, ent, sep, emp, id⊢, GName, ftrue, flft, Memory, Routine, Heap, Calls, Loops, WpFn, Tables, Atoms, sem, Fun, fact, factI, givenOf, tables, tablesOf, FmC, fmOf, owns, mirs, Typed, Is, shows, MutRef, typesAt, Contract, Triple, ensured, lasts, Meets, tripleOf, entered, cited}
-use Rattle.walks.proofs.Walks.{Given, ‵, raw, _⊛_, _$_, _∵_, !, qed, by, move, keep, drop, use1, group, split, join, fsplit, fsplit3, fjoin, fjoin3, suffices, frame, done, look, init, stop, from, addr, and-then, no-more, assigns, returns, enter, alloc1, alloc0, params1, pass1, pass0, free0, peeks, nothing, owned, calls-at}
-use Rattle.walks.proofs.Walks.{local, arg, takes, packs, gone, hole, fills, met, left, beside, answers, refTo, lends, comes-back}
+use Rattle.hand_proofs.proofs.Walks.{refl, ℕ, [], _∷_, URA, fullShare, Val, vptr, named, SProp, ent, sep, emp, id⊢, GName, ftrue, flft, Memory, Routine, Heap, Calls, Loops, WpFn, Tables, Atoms, sem, Fun, fact, factI, givenOf, tables, tablesOf, FmC, fmOf, owns, mirs, Typed, Is, shows, MutRef, typesAt, Contract, Triple, ensured, lasts, Meets, tripleOf, entered, cited}
+use Rattle.hand_proofs.proofs.Walks.{Given, ‵, raw, _⊛_, _$_, _∵_, !, qed, by, move, keep, drop, use1, group, split, join, fsplit, fsplit3, fjoin, fjoin3, suffices, frame, done, look, init, stop, from, addr, and-then, no-more, assigns, returns, enter, alloc1, alloc0, params1, pass1, pass0, free0, peeks, nothing, owned, calls-at}
+use Rattle.hand_proofs.proofs.Walks.{local, arg, takes, packs, gone, hole, fills, met, left, beside, answers, refTo, lends, comes-back}
 use Rattle.ledger.proofs.Lent.{gridVal, entryVal, ledgerVal, Says, gridLaw, entryLaw, ledgerLaw, answerLaw}
 use Rattle.ledger.proofs.call.put_by_lending.Key.{name as #put-by-lending}
 use Rattle.ledger.proofs.call.put_by_lending as self

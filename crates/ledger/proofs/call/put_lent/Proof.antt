@@ -20,9 +20,9 @@ use Rattle.ledger.proofs.call.put_entry as put
 use Rattle.ledger.proofs.call.put_entry.Symbol as put-def
 use Rattle.ledger.proofs.call.put_entry.Symbol.{name as #put-entry}
 use Rattle.ledger.proofs.call.put_entry.Met as put-thm
-use Rattle.walks.proofs.Walks.{refl, [], _∷_, URA, vptr, named, SProp, ent, sep, emp, Lft, Share, ftrue, flft, fobs, fbor, fres, Memory, Routine, Heap, Calls, Loops, WpFn, Tables, Atoms, sem, Fun, fact, givenOf, tables, tablesOf, Body, FmC, fmOf, owns, mirs, Typed, Is, mem, RefT, MutRef, now, typesAt, Contract, Triple, ensured, lasts, Meets, tripleOf, entered, cited}
-use Rattle.walks.proofs.Walks.{Given, ‵, raw, _⊛_, _$_, _∵_, !, qed, by, move, keep, drop, use1, use3, split, join, fsplit, fsplit3, fjoin, show, suffices, frame, done, look, init, and-then, no-more, returns, enter, alloc1, alloc0, params1, pass1, pass0, free0, closes, nothing, owned, calls-at}
-use Rattle.walks.proofs.Walks.{field, local, behind, arg, takes, stores, gone, mutLaw, met, left, answers, opens-at}
+use Rattle.hand_proofs.proofs.Walks.{refl, [], _∷_, URA, vptr, named, SProp, ent, sep, emp, Lft, Share, ftrue, flft, fobs, fbor, fres, Memory, Routine, Heap, Calls, Loops, WpFn, Tables, Atoms, sem, Fun, fact, givenOf, tables, tablesOf, Body, FmC, fmOf, owns, mirs, Typed, Is, mem, RefT, MutRef, now, typesAt, Contract, Triple, ensured, lasts, Meets, tripleOf, entered, cited}
+use Rattle.hand_proofs.proofs.Walks.{Given, ‵, raw, _⊛_, _$_, _∵_, !, qed, by, move, keep, drop, use1, use3, split, join, fsplit, fsplit3, fjoin, show, suffices, frame, done, look, init, and-then, no-more, returns, enter, alloc1, alloc0, params1, pass1, pass0, free0, closes, nothing, owned, calls-at}
+use Rattle.hand_proofs.proofs.Walks.{field, local, behind, arg, takes, stores, gone, mutLaw, met, left, answers, opens-at}
 use Rattle.ledger.proofs.Lent.{gridVal, entryVal, ledgerVal, answerVal, Says, gridLaw, entryLaw, ledgerLaw, resultLaw}
 use Rattle.ledger.proofs.call.put_lent.Key.{name as #put-lent}
 use Rattle.ledger.proofs.call.put_lent as self

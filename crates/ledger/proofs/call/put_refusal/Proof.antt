@@ -1,71 +1,76 @@
 -- Each way out by its question, those before it being answered yes.
-use mathlib.Core.Path.{sym, _∙_}
-use borrow.Author.Tests.{not-true, not-false}
+use mathlib.Core.Path.{_≡_}
+use mathlib.Core.Bool.{true, _&&_}
+use native.Mathlib.Omega.{arith}
 use borrow.Author.Needs.{needs}
-use Rattle.ledger.proofs.Calls.{no-number, grid-refused, own-questions}
+use Rattle.grid.specs.Answer.{firstNo}
+use Rattle.grid.specs.Questions.{gridQuestions}
+use Rattle.grid.proofs.General.{said-no, said-yes}
+use Rattle.grid.proofs.Answers.{asked-yes, asked-no, asked-none, refused-before, after-grid}
+use Rattle.ledger.specs.Ledger.{entryInBounds, ledgerInOrder}
+use Rattle.ledger.specs.Call.{putQuestions}
+use Rattle.ledger.proofs.Calls.{no-number}
 use Rattle.ledger.proofs.call.put_refusal.Statement.{statement}
 use Rattle.ledger.proofs.call.put_refusal.Tie as tie
+
+-- past the grid's questions, past the ledger's order, and past the entry's bounds
+abbrev past-order : tie.Else3 → tie.Else2
+past-order e = e .before .before
+
+abbrev past-grid : tie.Else2 → tie.Else1
+past-grid e = e .before .before
+
+abbrev start : tie.Else1 → tie.Start
+start e = e .before .before
+
+grid-yes : (e : tie.Else1) → firstNo (gridQuestions (start e .args .grid)) ≡ 0
+grid-yes e = no-number (e .before .grid-refusal .ensures) (e .if1 .left)
+
+in-order : (e : tie.Else2) → let a = start (past-grid e) .args in ledgerInOrder (a .grid) (a .ledger) ≡ true
+in-order e = said-yes (e .before .ledger-in-order .ensures) (e .if2 .left)
+
+-- question 11: both
+yes-11 : (e : tie.Else3) → let a = start (past-grid (past-order e)) .args in (ledgerInOrder (a .grid) (a .ledger) && entryInBounds (a .grid) (a .entry)) ≡ true
+yes-11 e = rw (in-order (past-order e)) (said-yes (e .before .entry-in-bounds .ensures) (e .if3 .left))
 
 grid-refusal-requires : tie.Need-grid-refusal-requires
 grid-refusal-requires c κs = search needs
 
 returns : tie.Need-returns
-returns c =
-    let start = c .before .before in
-    sym (grid-refused (start .args .grid) (start .args .ledger) (start .args .entry) (c .before .grid-refusal .result)
-    (c .before .grid-refusal .ensures) (c .if1 .taken))
+unfolding putQuestions
+returns c = refused-before _ _ (c .before .grid-refusal .ensures) (λ z. omega (arith, z, c .if1 .taken))
 
 ledger-in-order-requires : tie.Need-ledger-in-order-requires
 ledger-in-order-requires c κs = search needs
 
 returns-2 : tie.Need-returns-2
-returns-2 c =
-    let start = c .before .before .before .before in
-    sym (own-questions (start .args .grid) (start .args .ledger) (start .args .entry)
-    (no-number (c .before .before .before .grid-refusal .ensures) (c .before .before .if1 .left)) ∙ rw
-    (sym (c .before .ledger-in-order .ensures) ∙ not-true _ (c .if2 .taken)))
+unfolding putQuestions
+returns-2 c = after-grid _ _ (grid-yes (c .before .before)) (asked-no _ (rw (said-no (c .before .ledger-in-order .ensures) (c .if2 .taken))))
 
 entry-in-bounds-requires : tie.Need-entry-in-bounds-requires
 entry-in-bounds-requires c κs = search needs
 
 returns-3 : tie.Need-returns-3
+unfolding putQuestions
 returns-3 c =
-    let start = c .before .before .before .before .before .before in
-    sym (own-questions (start .args .grid) (start .args .ledger) (start .args .entry)
-    (no-number (c .before .before .before .before .before .grid-refusal .ensures) (c .before .before .before .before .if1 .left)) ∙ rw (
-      sym (c .before .before .before .ledger-in-order .ensures) ∙ not-false _ (c .before .before .if2 .left),
-      sym
-          (c .before .entry-in-bounds .ensures) ∙ not-true _ (c .if3 .taken),
-    ))
+    let e = c .before .before in
+    after-grid _ _ (grid-yes (past-grid e)) (asked-no _ (rw (in-order e, said-no (c .before .entry-in-bounds .ensures) (c .if3 .taken))))
 
 place-for-requires : tie.Need-place-for-requires
 place-for-requires c κs = search needs
 
 returns-4 : tie.Need-returns-4
+unfolding putQuestions
 returns-4 c =
-    let start = c .before .before .before .before .before .before .before .before in
-    let grid-refusal = c .before .before .before .before .before .before .before .grid-refusal in
-    let if1 = c .before .before .before .before .before .before .if1 in
-    sym (own-questions (start .args .grid) (start .args .ledger) (start .args .entry) (no-number (grid-refusal .ensures) (if1 .left)) ∙ rw (
-      sym (c .before .before .before .before .before .ledger-in-order .ensures) ∙ not-false _ (c .before .before .before .before .if2 .left),
-      sym
-          (c .before .before .before .entry-in-bounds .ensures) ∙ not-false _ (c .before .before .if3 .left),
-      sym (c .before .place-for .ensures) ∙
-          not-true _ (c .if4 .taken),
-    ))
+    let e = c .before .before in
+    after-grid _ _ (grid-yes (past-grid (past-order e))) (asked-yes 11 _ (yes-11 e) (asked-no _ (said-no (c .before .place-for .ensures) (c .if4 .taken))))
 
 returns-5 : tie.Need-returns-5
+unfolding putQuestions
 returns-5 c =
-    let start = c .before .before .before .before .before .before .before .before in
-    let grid-refusal = c .before .before .before .before .before .before .before .grid-refusal in
-    let if1 = c .before .before .before .before .before .before .if1 in
-    sym (own-questions (start .args .grid) (start .args .ledger) (start .args .entry) (no-number (grid-refusal .ensures) (if1 .left)) ∙ rw (
-      sym (c .before .before .before .before .before .ledger-in-order .ensures) ∙ not-false _ (c .before .before .before .before .if2 .left),
-      sym
-          (c .before .before .before .entry-in-bounds .ensures) ∙ not-false _ (c .before .before .if3 .left),
-      sym (c .before .place-for .ensures) ∙
-          not-false _ (c .if4 .left),
-    ))
+    let e = c .before .before in
+    after-grid _ _ (grid-yes (past-grid (past-order e)))
+    (asked-yes 11 _ (yes-11 e) (asked-yes 12 _ (said-yes (c .before .place-for .ensures) (c .if4 .left)) asked-none))
 
 pub put-refusal-spec : {M : Type 1} → statement M
 put-refusal-spec =

@@ -1,10 +1,17 @@
 -- Each way out by its tests.
-use mathlib.Core.Path.{sym, _∙_}
+use mathlib.Core.Path.{_≡_, sym, _∙_}
+use mathlib.Core.Bool.{true}
+use lib.Dec.{ltb}
 use borrow.Author.Tests.{not-true, not-false}
 use borrow.Author.Needs.{needs}
+use Rattle.grid.specs.Grid.{ceiling}
 use Rattle.ledger.specs.Ledger.{entryInBounds}
 use Rattle.ledger.proofs.judge.entry_in_bounds.Statement.{statement}
 use Rattle.ledger.proofs.judge.entry_in_bounds.Tie as tie
+
+-- past the ceiling
+below : (e : tie.Else1) → ltb (e .before .before .args .entry .km .0) (ceiling (e .before .before .args .grid)) ≡ true
+below e = sym (e .before .below-ceiling .ensures) ∙ not-false _ (e .if1 .left)
 
 below-ceiling-requires : tie.Need-below-ceiling-requires
 below-ceiling-requires c κs = search needs
@@ -18,20 +25,11 @@ on-grid-requires c κs = search needs
 
 returns-2 : tie.Need-returns-2
 unfolding entryInBounds
-returns-2 c =
-    let below-ceiling = c .before .before .before .before .before .before .below-ceiling in
-    rw (
-      sym (below-ceiling .ensures) ∙ not-false _ (c .before .before .before .before .before .if1 .left),
-      sym (c .before .on-grid .ensures) ∙
-          not-true _ (c .if2 .taken),
-    )
+returns-2 c = rw (below (c .before .before .before .before .before), sym (c .before .on-grid .ensures) ∙ not-true _ (c .if2 .taken))
 
 returns-3 : tie.Need-returns-3
 unfolding entryInBounds
-returns-3 c =
-    let below-ceiling = c .before .before .before .before .before .before .before .below-ceiling in
-    let if1 = c .before .before .before .before .before .before .if1 in
-    rw (sym (below-ceiling .ensures) ∙ not-false _ (if1 .left), sym (c .before .before .on-grid .ensures) ∙ not-false _ (c .before .if2 .left))
+returns-3 c = rw (below (c .before .before .before .before .before .before), sym (c .before .before .on-grid .ensures) ∙ not-false _ (c .before .if2 .left))
 
 pub entry-in-bounds-spec : {M : Type 1} → statement M
 entry-in-bounds-spec =

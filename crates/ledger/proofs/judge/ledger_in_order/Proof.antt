@@ -3,7 +3,7 @@ use Prim.Native.Nat.{_-_, _≤_, _<_, min}
 use mathlib.Core.Path.{_≡_, sym, _∙_}
 use native.Mathlib.Omega.{arith}
 use native.Mathlib.Nat.{min-eq-left}
-use lib.ListN.{drop}
+use lib.ListN.{length, drop}
 use borrow.Author.Tests.{not-true, not-false, leb-true}
 use borrow.Author.Needs.{needs}
 use Rattle.grid.specs.Grid.{ceiling}
@@ -19,19 +19,26 @@ Inv-loop grid ledger len least₀ i₀ least i = (i ≤ len) × (len ≤ capacit
 abbrev μ-loop : tie.MeasureT-loop
 μ-loop grid ledger len least₀ i₀ least i = len - i
 
+-- the loop and a turn of it, and the start
+abbrev start : tie.At-loop Inv-loop μ-loop → tie.Start Inv-loop μ-loop
+start h = h .before .before .before
+
+whole : (st : tie.Start Inv-loop μ-loop) → length (st .args .t2 .places) ≡ capacity
+whole st = places-whole (st .args .t2) _ (st .good .1 .0)
+
+inside : (t : tie.In-loop Inv-loop μ-loop) → t .before .loop .i < min (start (t .before) .args .t2 .len) capacity
+inside t = rw (min-eq-left (t .before .loop .inv .1)) (t .loop-test .taken)
+
 counted-requires : tie.Need-counted-requires Inv-loop μ-loop
 counted-requires c κs = search needs
 
 returns : tie.Need-returns Inv-loop μ-loop
-returns c =
-    let start = c .before .before in
-    sym (order-beyond (start .args .grid) (start .args .t2) (sym (c .before .counted .ensures) ∙ not-true _ (c .if1 .taken)))
+returns c = sym (order-beyond _ _ (sym (c .before .counted .ensures) ∙ not-true _ (c .if1 .taken)))
 
 loop-holds : tie.Need-loop-holds Inv-loop μ-loop
 loop-holds c =
-    let start = c .before .before in
     let fits = sym (c .before .counted .ensures) ∙ not-false _ (c .if1 .left) in
-    (omega arith, leb-true _ _ fits, order-counted (start .args .grid) (start .args .t2) fits)
+    (omega arith, leb-true _ _ fits, order-counted _ _ fits)
 
 mul-entry : tie.Need-mul-entry Inv-loop μ-loop
 mul-entry c = search needs
@@ -44,21 +51,16 @@ follows-requires c κs = search needs
 
 returns-2 : tie.Need-returns-2 Inv-loop μ-loop
 returns-2 c =
-    let loop = c .before .before .before .before .loop in
-    let l = c .before .before .before .before .before .before .before .args .t2 in
-    let whole = places-whole l _ (c .before .before .before .before .before .before .before .good .1 .0) in
-    let inside : loop .i < min (l .len) capacity = rw (min-eq-left (loop .inv .1)) (c .before .before .before .loop-test .taken) in
-    sym (loop .inv .2 ∙ order-stop l (loop .i) _ inside whole (c .before .before .before .before .before .before .before .args .grid) (loop .least)
+    let t = c .before .before .before in
+    let st = start (t .before) in
+    sym (t .before .loop .inv .2 ∙ order-stop (st .args .t2) (t .before .loop .i) _ (inside t) (whole st) (st .args .grid) (t .before .loop .least)
     (sym (c .before .follows .ensures) ∙ not-true _ (c .if2 .taken)))
 
 add-least : tie.Need-add-least Inv-loop μ-loop
 unfolding ceiling
 add-least c =
-    omega (
-      arith,
-      km-below _ (c .before .before .before .before .before .loop .least) _
-          (sym (c .before .before .follows .ensures) ∙ not-false _ (c .before .if2 .left)),
-    )
+    let h = c .before .before .before .before .before .loop in
+    omega (arith, km-below _ (h .least) _ (sym (c .before .before .follows .ensures) ∙ not-false _ (c .before .if2 .left)))
 
 add-i : tie.Need-add-i Inv-loop μ-loop
 add-i c = search needs
@@ -68,22 +70,18 @@ loop-less c = search needs
 
 loop-again : tie.Need-loop-again Inv-loop μ-loop
 loop-again c =
-    let loop = c .before .before .before .before .before .loop in
-    let l = c .before .before .before .before .before .before .before .before .args .t2 in
-    let whole = places-whole l _ (c .before .before .before .before .before .before .before .before .good .1 .0) in
-    let inside : loop .i < min (l .len) capacity = rw (min-eq-left (loop .inv .1)) (c .before .before .before .before .loop-test .taken) in (
-      omega arith,
-      loop .inv .1,
-      loop .inv .2 ∙ order-next l (loop .i) _ inside whole
-          (c .before .before .before .before .before .before .before .before .args .grid) (loop .least)
-          (sym (c .before .before .follows .ensures) ∙ not-false _ (c .before .if2 .left)),
-    )
+    let t = c .before .before .before .before in
+    let st = start (t .before) in
+    let inv = t .before .loop .inv in
+    let further = order-next (st .args .t2) (t .before .loop .i) _ (inside t) (whole st) (st .args .grid) (t .before .loop .least)
+    (sym (c .before .before .follows .ensures) ∙ not-false _ (c .before .if2 .left)) in
+    (omega arith, inv .1, inv .2 ∙ further)
 
 returns-3 : tie.Need-returns-3 Inv-loop μ-loop
 returns-3 c =
-    let l = c .before .before .before .before .args .t2 in
-    let none = from-end l (c .before .loop .i) (places-whole l _ (c .before .before .before .before .good .1 .0)) (rw (min-eq-left (c .before .loop .inv .1)) (c .loop-test .left)) in
-    sym (c .before .loop .inv .2 ∙ order-end (c .before .before .before .before .args .grid) (c .before .loop .least) _ none)
+    let h = c .before in
+    let none = from-end (start h .args .t2) (h .loop .i) (whole (start h)) (rw (min-eq-left (h .loop .inv .1)) (c .loop-test .left)) in
+    sym (h .loop .inv .2 ∙ order-end _ (h .loop .least) _ none)
 
 pub ledger-in-order-spec : {M : Type 1} → statement M
 ledger-in-order-spec =

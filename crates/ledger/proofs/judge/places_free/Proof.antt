@@ -3,14 +3,14 @@ use Prim.Native.Nat.{_+_}
 use mathlib.Core.Path.{sym}
 use native.Mathlib.Omega.{arith}
 use borrow.Author.Tests.{lt-leb}
-use Rattle.ledger.specs.Ledger.{placesFree}
+use Rattle.ledger.specs.Ledger.{capacity, placesFree}
 use Rattle.ledger.proofs.Places.{same-leb}
 use Rattle.ledger.proofs.judge.places_free.Statement.{statement}
 use Rattle.ledger.proofs.judge.places_free.Tie as tie
 
 returns : tie.Need-returns
 unfolding placesFree
-returns c = sym (lt-leb (c .before .args .ledger .len + c .before .args .n) 512 (omega arith))
+returns c = sym (lt-leb (c .before .args .ledger .len + c .before .args .n) capacity (omega arith))
 
 returns-2 : tie.Need-returns-2
 unfolding placesFree

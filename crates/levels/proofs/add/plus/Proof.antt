@@ -1,25 +1,33 @@
 -- `levels::add::plus`: each count added, far below its limit.
 use native.Mathlib.Omega.{arith}
+use borrow.Author.Needs.{needs}
 use Rattle.levels.specs.Level.{plus}
-use Rattle.levels.specs.Weight.{weight}
+use Rattle.levels.specs.State.{weight}
 use Rattle.levels.proofs.add.plus.Statement.{statement}
 use Rattle.levels.proofs.add.plus.Tie as tie
+
+-- the start, from the first sum
+abbrev start : tie.After-struct-known2 → tie.Start
+start c = c .before .before .before .before .before
 
 plus-stats-requires : tie.Need-plus-stats-requires
 unfolding weight
 plus-stats-requires c κs = omega (arith, c .before .before .pre)
 
-add-t6 : tie.Need-add-t6
+add-of : tie.Need-add-of
 unfolding weight
-add-t6 c = omega (arith, c .before .before .before .before .before .pre)
+add-of c = omega (arith, start c .pre)
 
-add-t7 : tie.Need-add-t7
+add-of-2 : tie.Need-add-of-2
 unfolding weight
-add-t7 c = omega (arith, c .before .before .before .before .before .before .before .pre)
+add-of-2 c = omega (arith, start (c .before .before) .pre)
+
+of-requires : tie.Need-of-requires
+of-requires c κs = search needs
 
 returns : tie.Need-returns
 unfolding plus
-returns c = rw (c .before .before .before .before .plus-stats .ensures)
+returns c = rw (c .of .ensures, c .before .before .before .before .before .plus-stats .ensures)
 
 pub plus-spec : {M : Type 1} → statement M
-plus-spec = tie.close (tie.spec plus-stats-requires add-t6 add-t7 returns)
+plus-spec = tie.close (tie.spec plus-stats-requires add-of add-of-2 of-requires returns)

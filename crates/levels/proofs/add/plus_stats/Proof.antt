@@ -1,34 +1,41 @@
 -- `levels::add::plus_stats`: each count added, far below its limit.
-use mathlib.Core.Path.{refl}
 use native.Mathlib.Omega.{arith}
+use borrow.Author.Needs.{needs}
 use Rattle.levels.specs.Level.{plusStats}
-use Rattle.levels.specs.Weight.{statsWeight}
+use Rattle.levels.specs.State.{statsWeight}
 use Rattle.levels.proofs.add.plus_stats.Statement.{statement}
 use Rattle.levels.proofs.add.plus_stats.Tie as tie
 
-add-t3 : tie.Need-add-t3
-unfolding statsWeight
-add-t3 c = omega (arith, c .before .before .pre)
+-- the start, from the third sum
+abbrev start : tie.After-struct-known6 → tie.Start
+start c = c .before .before .before .before .before .before
 
-add-t4 : tie.Need-add-t4
+add-of : tie.Need-add-of
 unfolding statsWeight
-add-t4 c = omega (arith, c .before .before .before .before .pre)
+add-of c = omega (arith, c .before .before .pre)
 
-add-t5 : tie.Need-add-t5
+add-of-2 : tie.Need-add-of-2
 unfolding statsWeight
-add-t5 c = omega (arith, c .before .before .before .before .before .before .pre)
+add-of-2 c = omega (arith, c .before .before .before .before .pre)
 
-add-t6 : tie.Need-add-t6
+add-of-3 : tie.Need-add-of-3
 unfolding statsWeight
-add-t6 c = omega (arith, c .before .before .before .before .before .before .before .before .pre)
+add-of-3 c = omega (arith, start c .pre)
 
-add-t7 : tie.Need-add-t7
+add-of-4 : tie.Need-add-of-4
 unfolding statsWeight
-add-t7 c = omega (arith, c .before .before .before .before .before .before .before .before .before .before .pre)
+add-of-4 c = omega (arith, start (c .before .before) .pre)
+
+add-of-5 : tie.Need-add-of-5
+unfolding statsWeight
+add-of-5 c = omega (arith, start (c .before .before .before .before) .pre)
+
+of-requires : tie.Need-of-requires
+of-requires c κs = search needs
 
 returns : tie.Need-returns
 unfolding plusStats
-returns c = refl
+returns c = c .of .ensures
 
 pub plus-stats-spec : {M : Type 1} → statement M
-plus-stats-spec = tie.close (tie.spec add-t3 add-t4 add-t5 add-t6 add-t7 returns)
+plus-stats-spec = tie.close (tie.spec add-of add-of-2 add-of-3 add-of-4 add-of-5 of-requires returns)

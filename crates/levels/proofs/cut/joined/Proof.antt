@@ -1,5 +1,5 @@
 -- `levels::cut::joined`: the better held, the counts added.
-use Rattle.levels.specs.Buffer.{joinedResults}
+use Rattle.levels.specs.State.{joinedResults}
 use borrow.Author.Needs.{needs}
 use Rattle.levels.proofs.cut.joined.Statement.{statement}
 use Rattle.levels.proofs.cut.joined.Tie as tie

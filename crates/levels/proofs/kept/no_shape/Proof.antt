@@ -1,6 +1,6 @@
 -- `levels::kept::no_shape`: the definition opened.
 use mathlib.Core.Path.{refl}
-use Rattle.levels.specs.Work.{noShape}
+use Rattle.levels.specs.State.{noShape}
 use Rattle.levels.proofs.kept.no_shape.Statement.{statement}
 use Rattle.levels.proofs.kept.no_shape.Tie as tie
 

@@ -10,20 +10,21 @@ use native.Mathlib.Omega.{arith}
 use denote.Ref.{now}
 use lib.Ieee.{Float, eq}
 use Rattle.grid.specs.declared.Cell.{Cell}
-use Rattle.grid.specs.Map.{Map}
+use Rattle.grid.specs.Map.{Map, sheetOf}
 use Rattle.kernel.specs.Circle.{population}
-use Rattle.kernel.specs.Kernel.{kernelOf, globeOf, sheetOf}
+use Rattle.kernel.specs.Kernel.{kernelOf}
 use Rattle.kernel.proofs.Populations.{same-population}
 use Rattle.lists.proofs.Bools.{of-true}
 use Rattle.blocks.specs.declared.Block.{Block}
 use Rattle.blocks.specs.Block.{probe, Rectangle}
-use Rattle.bounds.specs.Bound.{wideKm, wideKernel}
+use Rattle.bounds.specs.Bound.{wideKm}
+use Rattle.bounds.specs.State.{wideKernel}
 use Rattle.candidates.specs.declared.Held.{Held}
 use Rattle.levels.specs.Level.{examine, chunk}
-use Rattle.levels.specs.Buffer.{blocksFrom, Swept}
-use Rattle.blocks.specs.Word.{CanSplit}
+use Rattle.levels.specs.State.{blocksFrom, Swept, summedMap, KernelAt, Serves, workOf}
+use Rattle.blocks.specs.Requires.{CanSplit}
 use Rattle.levels.specs.declared.ChunkWork.{ChunkWork}
-use Rattle.levels.specs.Work.{mapOf, KernelAt, Serves, CanCount, workOf}
+use Rattle.levels.specs.Requires.{CanCount}
 use Rattle.levels.proofs.Serving.{kernel-at, kernel-kept, wide-at, wide-radius, serves-none, serves-own, serves-still}
 use Rattle.levels.proofs.OneBlock.{ready-sheet, ready-cosines, probe-row, probe-placed, probe-people, not-asked, examined-is}
 use Rattle.levels.proofs.Sweeps.{Sweeping, middle-on, start-held, start-own, sweep-start, next-rectangle, sweep-counts, sweep-room, sweep-next, sweep-done}
@@ -33,24 +34,40 @@ use Rattle.levels.proofs.sweep.chunk.Statement.{statement}
 use Rattle.levels.proofs.sweep.chunk.Tie as tie
 
 abbrev Inv-loop : tie.InvT-loop
-Inv-loop grid angles cosines sums near start end km far₀ live exact₀ one₀ one-shape₀ two₀ two-shape₀ work₀ at₀ i₀ far exact one one-shape two two-shape work at i =
-    Sweeping grid angles cosines sums near start end km (work₀ .held) far₀ live far work at i
+Inv-loop grid angles cosines sums current start end km following₀ live exact₀ one₀ one-shape₀ two₀ two-shape₀ work₀ at₀ i₀ following exact one one-shape two two-shape work at i =
+    Sweeping grid angles cosines sums current start end km (work₀ .held) following₀ live following work at i
     × KernelAt grid angles km exact × Serves grid angles cosines km one-shape one × Serves grid angles cosines km two-shape two
 
 abbrev μ-loop : tie.MeasureT-loop
-μ-loop grid angles cosines sums near start end km far₀ live exact₀ one₀ one-shape₀ two₀ two-shape₀ work₀ at₀ i₀ far exact one one-shape two two-shape work at i =
+μ-loop grid angles cosines sums current start end km following₀ live exact₀ one₀ one-shape₀ two₀ two-shape₀ work₀ at₀ i₀ following exact one one-shape two two-shape work at i =
     end - i
 
 -- ---- a turn, seen from its block
 
+abbrev begin : tie.After-struct-known Inv-loop μ-loop → tie.Start Inv-loop μ-loop
+begin c = c .before .before .before .before .before .before
+
 abbrev start-of : tie.At-loop Inv-loop μ-loop → tie.Start Inv-loop μ-loop
-start-of c = c .before .before .before .before .before .before .before .before .before .before
+start-of c = begin (c .before .before .before .before)
 
 abbrev the-map : tie.At-loop Inv-loop μ-loop → Map
-the-map c = let a = start-of c .args in mapOf (a .grid) (now (a .angles)) (now (a .cosines)) (now (a .sums))
+the-map c = let a = start-of c .args in summedMap (a .grid) (now (a .angles)) (now (a .cosines)) (now (a .sums))
+
+abbrev entered : tie.After-odd-columns Inv-loop μ-loop → tie.In-loop Inv-loop μ-loop
+entered c = c .before .before .before .before
 
 abbrev head-of : tie.After-odd-columns Inv-loop μ-loop → tie.At-loop Inv-loop μ-loop
-head-of c = c .before .before .before .before .before
+head-of c = entered c .before
+
+-- back to the block, from where it is known whether it asks; to there, from the exact kernel's row; and to the block's work, from the turn's end
+abbrev turn : tie.After-asks Inv-loop μ-loop → tie.After-odd-columns Inv-loop μ-loop
+turn c = c .before .before .before
+
+abbrev asked : tie.After-same-row Inv-loop μ-loop → tie.After-asks Inv-loop μ-loop
+asked c = c .before .before .before
+
+abbrev worked : tie.After-slice-known2 Inv-loop μ-loop → tie.After-examined Inv-loop μ-loop
+worked c = c .before .before .before .before
 
 abbrev block-of : tie.After-odd-columns Inv-loop μ-loop → Block
 block-of c = c .before .before .from-word .result
@@ -60,7 +77,7 @@ rectangle c =
     let st = start-of (head-of c) in
     let l = head-of c .loop in
     subst (Rectangle (st .args .grid)) (sym (c .before .before .from-word .ensures))
-    (next-rectangle _ _ _ _ _ _ _ _ _ _ _ (st .pre .0) (st .pre .1 .0) (st .pre .1 .1) (l .far) (l .work) (l .at) (l .i) (l .inv .0) (c .before .before .before .before .loop-test .taken))
+    (next-rectangle _ _ _ _ _ _ _ _ _ _ _ (st .pre .0) (st .pre .1 .0) (st .pre .1 .1) (l .following) (l .work) (l .at) (l .i) (l .inv .0) (entered c .loop-test .taken))
 
 -- ---- the wide kernels
 
@@ -141,12 +158,12 @@ module _ (c : tie.Joined1 Inv-loop μ-loop) where
       (two-serves (record { before = record { before = record { before = h; if1 = w .0 }; same-shape2 = w .1 }; if3 = w .2 })))
       (c .if1 .came)
 
--- ---- the exact kernel, and a survivor's people
+-- ---- the exact kernel, and a survivor's population
 
-exact-is : (c : tie.Joined5 Inv-loop μ-loop) → let h = c .before .before .before .before .before .before .before in
+exact-is : (c : tie.Joined5 Inv-loop μ-loop) → let h = turn (asked (c .before)) in
     c .if5 .exact ≡ kernelOf (sheetOf (start-of (head-of h) .args .grid) (now (start-of (head-of h) .args .angles))) (probe (block-of h) .row) (start-of (head-of h) .args .km)
 exact-is c =
-    let h = c .before .before .before .before .before .before .before in
+    let h = turn (asked (c .before)) in
     let a = start-of (head-of h) .args in
     let p = h .before .probe in
     ⊎-elim (λ w. w .2 ∙ w .1 .ensures ∙ ap (λ (x : Cell). kernelOf (sheetOf (a .grid) (now (a .angles))) (x .row) (a .km)) (p .ensures))
@@ -175,8 +192,8 @@ module _ (c : tie.Joined4 Inv-loop μ-loop) where
       (λ w. subst (KernelAt _ _ _) (sym (w .1)) (head-of b .loop .inv .1))
       (c .if4 .came)
 
-  people-is : c .before .before .survives .result ≡ true → c .if4 .people ≡ population (the-map (head-of b)) (st .args .km) (probe (block-of b))
-  people-is s =
+  population-is : c .before .before .survives .result ≡ true → c .if4 .population ≡ population (the-map (head-of b)) (st .args .km) (probe (block-of b))
+  population-is s =
       ⊎-elim
       (λ w. w .9 ∙ w .7 .ensures
       ∙ probe-people _ _ _ _ (st .pre .0) (block-of b) (rectangle b) (b .before .probe .result) (b .before .probe .ensures) _ (w .3 .exact)
@@ -190,21 +207,21 @@ module _ (c : tie.Joined4 Inv-loop μ-loop) where
       (c .if4 .came)
 
 -- the block's work is the definition's
-seen : (c : tie.After-examined Inv-loop μ-loop) → let b = c .before .before .before .before .before in
+seen : (c : tie.After-examined Inv-loop μ-loop) → let b = turn (c .before .before) in
     let s = c .before .before .before .survives .result in
     (bs : List Block) → workOf (c .examined .result) (cond s (bs ++ block-of b ∷ []) bs)
     ≡ examine (the-map (head-of b)) (start-of (head-of b) .args .km) (workOf (head-of b .loop .work) bs) (block-of b)
 seen c bs =
-    let b = c .before .before .before .before .before in
+    let b = turn (c .before .before) in
     let s = c .before .before .before .survives in
     ap (λ (x : ChunkWork). workOf x (cond (s .result) (bs ++ block-of b ∷ []) bs)) (c .examined .ensures)
     ∙ examined-is (the-map (head-of b)) (start-of (head-of b) .args .km) (head-of b .loop .work) (block-of b) _ (wide-is (c .before .before .before .before)) _ (bound-is (c .before .before .before .before))
-    (s .result) (s .ensures) (c .before .if4 .people) (people-is (c .before)) bs
+    (s .result) (s .ensures) (c .before .if4 .population) (population-is (c .before)) bs
 
 -- ---- the needs
 
 build-requires : tie.Need-build-requires Inv-loop μ-loop
-build-requires c κs = middle-on _ _ (ready-sheet _ _ _ _ (c .before .before .before .before .before .before .pre .0))
+build-requires c κs = middle-on _ _ (ready-sheet _ _ _ _ (begin c .pre .0))
 
 no-shape-requires : tie.Need-no-shape-requires Inv-loop μ-loop
 no-shape-requires c κs = search needs
@@ -214,7 +231,7 @@ started-requires c κs = search needs
 
 loop-holds : tie.Need-loop-holds Inv-loop μ-loop
 loop-holds c =
-    let st = c .before .before .before .before .before .before .before .before .before in
+    let st = begin (c .before .before .before) in
     let shape = c .before .no-shape in (
       sweep-start _ _ _ _ _ _ _ _ _ _ _ (st .pre .0) (st .pre .1 .0) (st .pre .1 .1) (c .started .result) (start-own _ _ _ (c .started .result) (c .started .ensures)),
       kernel-at _ _ _ _ _ (c .before .before .build .ensures),
@@ -225,7 +242,7 @@ loop-holds c =
 mul-from-word : tie.Need-mul-from-word Inv-loop μ-loop
 mul-from-word c =
     let st = start-of (c .before) in
-    let h : c .before .loop .i < length (now (st .args .near)) = omega (arith, st .pre .1 .0 .words, c .loop-test .taken) in
+    let h : c .before .loop .i < length (now (st .args .current)) = omega (arith, st .pre .1 .0 .words, c .loop-test .taken) in
     search needs
 
 shared-slice-read-from-word : tie.Need-shared-slice-read-from-word Inv-loop μ-loop
@@ -252,7 +269,7 @@ wide-kernel-requires c κs =
 circle-population-requires : tie.Need-circle-population-requires Inv-loop μ-loop
 circle-population-requires c κs =
     let j = c .before .before .before in
-    let b = c .before .before .before .before .before .before in
+    let b = j .before .before .before in
     probe-placed _ _ _ _ (start-of (head-of b) .pre .0) (block-of b) (rectangle b) (b .before .probe .result) (b .before .probe .ensures) _ (j .if2 .one)
     (wide-at _ _ (block-of b) (j .if2 .one) (one-wide j))
 
@@ -268,7 +285,7 @@ wide-kernel-requires-2 c κs =
 circle-population-requires-2 : tie.Need-circle-population-requires-2 Inv-loop μ-loop
 circle-population-requires-2 c κs =
     let j = c .before .before .before in
-    let b = c .before .before .before .before .before .before in
+    let b = j .before .before .before in
     probe-placed _ _ _ _ (start-of (head-of b) .pre .0) (block-of b) (rectangle b) (b .before .probe .result) (b .before .probe .ensures) _ (j .if3 .two)
     (wide-at _ _ (block-of b) (j .if3 .two) (two-wide j))
 
@@ -283,7 +300,7 @@ same-row-requires c κs = search needs
 
 build-requires-2 : tie.Need-build-requires-2 Inv-loop μ-loop
 build-requires-2 c κs =
-    let b = c .before .before .before .before .before .before .before in
+    let b = turn (asked (c .before)) in
     let t = start-of (head-of b) .pre .0 in
     record {
       sheet = ready-sheet _ _ _ _ t;
@@ -293,49 +310,49 @@ build-requires-2 c κs =
 circle-population-requires-3 : tie.Need-circle-population-requires-3 Inv-loop μ-loop
 circle-population-requires-3 c κs =
     let j = c .before .before .before in
-    let b = c .before .before .before .before .before .before .before .before .before .before in
+    let b = turn (asked (j .before)) in
     probe-placed _ _ _ _ (start-of (head-of b) .pre .0) (block-of b) (rectangle b) (b .before .probe .result) (b .before .probe .ensures) _ (j .if5 .exact) (exact-is j)
 
 examined-requires : tie.Need-examined-requires Inv-loop μ-loop
 examined-requires c κs =
-    let b = c .before .before .before .before in
+    let b = turn (c .before) in
     let st = start-of (head-of b) in
     let l = head-of b .loop in
     subst (CanCount (l .work)) (sym (b .before .before .from-word .ensures))
-    (sweep-counts _ _ _ _ _ _ _ _ _ _ _ (st .pre .0) (st .pre .1 .0) (st .pre .1 .1) (l .far) (l .work) (l .at) (l .i) (l .inv .0) (b .before .before .before .before .loop-test .taken))
+    (sweep-counts _ _ _ _ _ _ _ _ _ _ _ (st .pre .0) (st .pre .1 .0) (st .pre .1 .1) (l .following) (l .work) (l .at) (l .i) (l .inv .0) (entered b .loop-test .taken))
 
 write-children-requires : tie.Need-write-children-requires Inv-loop μ-loop
 write-children-requires c κs =
-    let b = c .before .before .before .before .before .before in
+    let b = turn (c .before .before .before) in
     let st = start-of (head-of b) in
     let l = head-of b .loop in
-    subst (λ (x : Block). CanSplit x (l .far) (l .at)) (sym (b .before .before .from-word .ensures))
-    (sweep-room _ _ _ _ _ _ _ _ _ _ _ (st .pre .0) (st .pre .1 .0) (st .pre .1 .1) (l .far) (l .work) (l .at) (l .i) (l .inv .0) (b .before .before .before .before .loop-test .taken))
+    subst (λ (x : Block). CanSplit x (l .following) (l .at)) (sym (b .before .before .from-word .ensures))
+    (sweep-room _ _ _ _ _ _ _ _ _ _ _ (st .pre .0) (st .pre .1 .0) (st .pre .1 .1) (l .following) (l .work) (l .at) (l .i) (l .inv .0) (entered b .loop-test .taken))
 
 add-i : tie.Need-add-i Inv-loop μ-loop
 add-i c =
-    let b = c .before .before .before .before .before .before .before .before .before in
-    omega (arith, b .before .before .before .before .loop-test .taken, start-of (head-of b) .fits .end .fits)
+    let b = turn (worked c .before .before) in
+    omega (arith, entered b .loop-test .taken, start-of (head-of b) .fits .end .fits)
 
 loop-less : tie.Need-loop-less Inv-loop μ-loop
 loop-less c = search needs
 
 loop-again : tie.Need-loop-again Inv-loop μ-loop
 loop-again c =
-    let e = c .before .before .before .before in
-    let b = c .before .before .before .before .before .before .before .before .before in
+    let e = worked c in
+    let b = turn (e .before .before) in
     let st = start-of (head-of b) in
     let l = head-of b .loop in
     let s = e .before .before .before .survives .result in
     let word = b .before .before .from-word .ensures in
     let wrote = c .before .before .write-children in (
-      sweep-next _ _ _ _ _ _ _ _ _ _ _ (st .pre .0) (st .pre .1 .0) (st .pre .1 .1) (l .far) (l .work) (l .at) (l .i) (l .inv .0)
-          (b .before .before .before .before .loop-test .taken) (e .examined .result) s
+      sweep-next _ _ _ _ _ _ _ _ _ _ _ (st .pre .0) (st .pre .1 .0) (st .pre .1 .1) (l .following) (l .work) (l .at) (l .i) (l .inv .0)
+          (entered b .loop-test .taken) (e .examined .result) s
           (subst (λ (x : Block). (bs : List Block) → workOf (e .examined .result) (cond s (bs ++ x ∷ []) bs) ≡ examine (the-map (head-of b)) (st .args .km) (workOf (l .work) bs) x) word (seen e)) _ (wrote .result)
           (rw word at (wrote .ensures)),
       exact-after (e .before),
-      one-after (c .before .before .before .before .before .before .before .before),
-      two-after (c .before .before .before .before .before .before .before .before),
+      one-after (e .before .before .before .before),
+      two-after (e .before .before .before .before),
     )
 
 result-of-requires : tie.Need-result-of-requires Inv-loop μ-loop
@@ -351,10 +368,10 @@ returns c =
     let started = c .before .before .before .started in
     let a = st .args in
     let done =
-    subst (λ (x : Held). Swept (chunk (the-map (c .before .before)) (a .km) x (blocksFrom (a .start) (a .end) (now (a .near)))) (now (a .far)) (a .live) (l .far)
+    subst (λ (x : Held). Swept (chunk (the-map (c .before .before)) (a .km) x (blocksFrom (a .start) (a .end) (now (a .current)))) (now (a .following)) (a .live) (l .following)
     (record { held = l .work .held; tally = l .work .tally; live = l .at }))
     (start-held _ _ _ (started .result) (started .ensures))
-    (sweep-done _ _ _ _ _ _ _ _ _ _ _ (st .pre .0) (st .pre .1 .0) (st .pre .1 .1) (l .far) (l .work) (l .at) (l .i) (l .inv .0) (c .before .loop-test .left)) in
+    (sweep-done _ _ _ _ _ _ _ _ _ _ _ (st .pre .0) (st .pre .1 .0) (st .pre .1 .1) (l .following) (l .work) (l .at) (l .i) (l .inv .0) (c .before .loop-test .left)) in
     rw (c .result-of .ensures) done
 
 pub chunk-spec : {M : Type 1} → statement M

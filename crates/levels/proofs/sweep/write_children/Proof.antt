@@ -19,7 +19,7 @@ returns-2 : tie.Need-returns-2
 unfolding each
 returns-2 c =
     let start = c .before .before in
-    rw (c .if1 .left) (written-nothing (now (start .args .far)) (start .args .at))
+    rw (c .if1 .left) (written-nothing (now (start .args .following)) (start .args .at))
 
 pub write-children-spec : {M : Type 1} → statement M
 write-children-spec = tie.close (tie.spec split-requires same-length returns returns-2)

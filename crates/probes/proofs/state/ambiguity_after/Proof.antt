@@ -1,6 +1,6 @@
 -- Each way out by its test.
-use Rattle.probes.specs.State.{ambiguityAfter}
 use borrow.Author.Needs.{needs}
+use Rattle.probes.specs.State.{ambiguityAfter}
 use Rattle.probes.proofs.state.ambiguity_after.Statement.{statement}
 use Rattle.probes.proofs.state.ambiguity_after.Tie as tie
 

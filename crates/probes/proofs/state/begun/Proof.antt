@@ -1,14 +1,20 @@
--- The code is the definition.
-use mathlib.Core.Path.{refl}
-use Rattle.probes.specs.State.{begun}
+-- The counts and the candidate by their makers.
+use borrow.Author.Needs.{needs}
 use Rattle.candidates.specs.Candidate.{northWest}
 use Rattle.levels.specs.Level.{noStats}
+use Rattle.probes.specs.State.{runBegun}
 use Rattle.probes.proofs.state.begun.Statement.{statement}
 use Rattle.probes.proofs.state.begun.Tie as tie
 
+of-requires : tie.Need-of-requires
+of-requires c κs = search needs
+
+at-requires : tie.Need-at-requires
+at-requires c κs = search needs
+
 returns : tie.Need-returns
-unfolding begun noStats northWest
-returns c = refl
+unfolding runBegun noStats northWest
+returns c = rw (c .at .ensures, c .before .of .ensures)
 
 pub begun-spec : {M : Type 1} → statement M
-begun-spec = tie.close (tie.spec returns)
+begun-spec = tie.close (tie.spec of-requires at-requires returns)

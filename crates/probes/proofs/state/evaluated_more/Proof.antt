@@ -1,6 +1,6 @@
 -- The code is the definition.
-use Rattle.probes.specs.State.{evaluatedMore}
 use borrow.Author.Needs.{needs}
+use Rattle.probes.specs.State.{evaluatedMore}
 use Rattle.probes.proofs.state.evaluated_more.Statement.{statement}
 use Rattle.probes.proofs.state.evaluated_more.Tie as tie
 

@@ -1,6 +1,6 @@
 -- Each field from its own function.
-use Rattle.probes.specs.State.{noted}
 use borrow.Author.Needs.{needs}
+use Rattle.probes.specs.State.{noted}
 use Rattle.probes.proofs.state.noted.Statement.{statement}
 use Rattle.probes.proofs.state.noted.Tie as tie
 

@@ -1,7 +1,7 @@
 -- The code is the definition.
 use mathlib.Core.Path.{refl}
-use Rattle.probes.specs.State.{reusedMore}
 use borrow.Author.Needs.{needs}
+use Rattle.probes.specs.State.{reusedMore}
 use Rattle.probes.proofs.state.reused_more.Statement.{statement}
 use Rattle.probes.proofs.state.reused_more.Tie as tie
 

@@ -1,8 +1,8 @@
 -- Each case of the ambiguity.
-use Rattle.probes.specs.State.{radiiOf}
 use native.Mathlib.Omega.{arith}
-use Rattle.probes.specs.Smallest.{widened}
 use borrow.Author.Needs.{needs}
+use Rattle.probes.specs.State.{radiiOf}
+use Rattle.probes.specs.Smallest.{widened}
 use Rattle.probes.proofs.state.widened.Statement.{statement}
 use Rattle.probes.proofs.state.widened.Tie as tie
 

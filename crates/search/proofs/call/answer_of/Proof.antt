@@ -1,5 +1,5 @@
 -- `search::call::answer_of`: what is held, named, with the counts.
-use Rattle.grid.proofs.Literals.{literal-0}
+use Rattle.floats.proofs.Literals.{literal-0}
 use borrow.Author.Needs.{needs}
 use Rattle.search.proofs.call.answer_of.Statement.{statement}
 use Rattle.search.proofs.call.answer_of.Tie as tie

@@ -8,16 +8,19 @@ use Rattle.search.proofs.call.held_or_north_west.Tie as tie
 enum-told : tie.Need-enum-told
 enum-told c = search needs
 
+at-requires : tie.Need-at-requires
+at-requires c κs = search needs
+
 enum-known-held : tie.Need-enum-known-held
 enum-known-held c = search needs
 
 returns : tie.Need-returns
 unfolding heldOr northWest
-returns c = rw (c .enum-told .given .1)
+returns c = rw (c .before .enum-told .given .1, c .at .ensures)
 
 returns-2 : tie.Need-returns-2
 unfolding heldOr
 returns-2 c = rw (c .before .held .given .1)
 
 pub held-or-north-west-spec : {M : Type 1} → statement M
-held-or-north-west-spec = tie.close (tie.spec enum-told enum-known-held returns returns-2)
+held-or-north-west-spec = tie.close (tie.spec enum-told at-requires enum-known-held returns returns-2)

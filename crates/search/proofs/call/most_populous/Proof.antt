@@ -1,27 +1,30 @@
 -- `search::call::most_populous`: refused with nothing written, or accepted, filled and searched.
 use mathlib.Core.Path.{sym, _∙_}
 use denote.Ref.{now}
-use Rattle.grid.specs.Map.{Map}
+use Rattle.grid.specs.Map.{Map, lentMap}
 use Rattle.grid.specs.Answer.{shown}
-use Rattle.search.specs.Call.{Buffers, searchAnswer}
+use Rattle.search.specs.Call.{Buffers, buffers, searchAnswer}
 use Rattle.search.proofs.SearchCalls.{SearchPassed, search-passed, search-refused, search-answered, to-fill, to-search, sums-filled, searched-map}
 use borrow.Author.Needs.{needs}
 use Rattle.search.proofs.call.most_populous.Statement.{statement}
 use Rattle.search.proofs.call.most_populous.Tie as tie
 
--- past the questions
+-- past the questions: what the counts are known to be, and the start
+abbrev counted : tie.Else1 → tie.After-shared-slice-known
+counted e = e .before .before .before .before .before .before .before .before .before .before
+
 abbrev start : tie.Else1 → tie.Start
-start e = e .before .before .before .before .before .before .before .before .before .before .before
+start e = counted e .before
+
+-- where the sums are filled
+abbrev filled : tie.After-search-at-arg3 → tie.After-fill-sums
+filled c = c .before .before .before .before .before
 
 abbrev given : tie.Start → Map
-given st =
-    record {
-      globe = record { grid = st .args .grid; angles = now (st .args .angles); cosines = now (st .args .cosines) };
-      counts = now (st .args .counts);
-    }
+given st = let a = st .args in lentMap (a .grid) (now (a .counts)) (now (a .angles)) (now (a .cosines))
 
 abbrev lent : tie.Start → Buffers
-lent st = record { sums = now (st .args .sums); near = now (st .args .near); far = now (st .args .far) }
+lent st = let a = st .args in buffers (now (a .sums)) (now (a .current)) (now (a .following))
 
 passed : (e : tie.Else1) → SearchPassed (given (start e)) (start e .args .spacing) (start e .args .km) (lent (start e))
 passed e = search-passed _ _ _ _ (sym (e .before .search-refusal .ensures) ∙ e .if1 .left)
@@ -40,18 +43,16 @@ same-length-3 c = search needs
 
 returns : tie.Need-returns
 unfolding searchAnswer shown
-returns c =
-    let asked = c .before .search-refusal in
-    search-refused _ _ _ _ (asked .result) (asked .ensures) (c .if1 .taken)
+returns c = let q = c .before .search-refusal in search-refused _ _ _ _ (q .result) (q .ensures) (c .if1 .taken)
 
 fill-sums-requires : tie.Need-fill-sums-requires
 fill-sums-requires c κs = to-fill (passed (c .before))
 
 search-at-requires : tie.Need-search-at-requires
 search-at-requires c κs =
-    let e = c .before .before .before .before .before .before .before in
-    to-search (passed e) _ (c .before .before .before .before .before .fill-sums .ensures)
-    (λ i. e .before .before .before .before .before .before .before .before .before .before .shared-slice-known .given i .fits)
+    let f = filled c in
+    let e = f .before .before in
+    to-search (passed e) _ (f .fill-sums .ensures) (λ i. counted e .shared-slice-known .given i .fits)
 
 same-length-4 : tie.Need-same-length-4
 same-length-4 c = search needs
@@ -65,11 +66,12 @@ same-length-6 c = search needs
 returns-2 : tie.Need-returns-2
 unfolding searchAnswer
 returns-2 c =
-    let e = c .before .before .before .before .before .before .before .before .before .before .before .before in
-    let filled = c .before .before .before .before .before .before .before .before .before .before .fill-sums in
-    let found = c .before .before .before .before .search-at in
+    let s = c .before .before .before .before in
+    let found = s .search-at in
+    let f = filled (s .before) in
+    let e = f .before .before in
     search-answered _ _ _ _ (found .result) _ _ _ (sym (e .before .search-refusal .ensures) ∙ e .if1 .left)
-    (found .ensures ∙ searched-map (passed e) _ (filled .ensures)) (sums-filled (passed e) _ (filled .ensures)) (found .kept .1 .1 .1 .1 .0)
+    (found .ensures ∙ searched-map (passed e) _ (f .fill-sums .ensures)) (sums-filled (passed e) _ (f .fill-sums .ensures)) (found .kept .1 .1 .1 .1 .0)
     (found .kept .1 .1 .1 .1 .1 .0)
 
 pub most-populous-spec : {M : Type 1} → statement M

@@ -5,6 +5,10 @@ use borrow.Author.Needs.{needs}
 use Rattle.search.proofs.call.search_at.Statement.{statement}
 use Rattle.search.proofs.call.search_at.Tie as tie
 
+-- the start, where the radius is compared with 0
+abbrev start : tie.After-slice-known2 → tie.Start
+start c = c .before .before .before .before .before
+
 nothing-requires : tie.Need-nothing-requires
 nothing-requires c κs = search needs
 
@@ -13,9 +17,9 @@ answer-of-requires c κs = search needs
 
 returns : tie.Need-returns
 returns c =
-    let a = c .before .before .before .before .before .before .before .before .args in
-    c .answer-of .ensures ∙ search-none _ (a .spacing) (a .km) (c .before .nothing .result) (c .before .before .if1 .taken)
-    (c .before .nothing .ensures)
+    let n = c .before in
+    let a = start (n .before .before) .args in
+    c .answer-of .ensures ∙ search-none _ (a .spacing) (a .km) (n .nothing .result) (n .before .if1 .taken) (n .nothing .ensures)
 
 int-to-float-radius : tie.Need-int-to-float-radius
 int-to-float-radius c = search needs
@@ -37,12 +41,12 @@ same-length-2 c = search needs
 
 returns-2 : tie.Need-returns-2
 returns-2 c =
-    let if1 = c .before .before .before .before .before .before .before .before .before .before .if1 in
-    let spacing-of = c .before .before .before .before .before .before .before .before .spacing-of in
-    let searched = c .before .before .before .before .before .searched in
-    let a = c .before .before .before .before .before .before .before .before .before .before .before .before .before .before .before .before .args in
-    c .answer-of2 .ensures ∙ search-found _ (a .spacing) (a .km) (spacing-of .result) (searched .result) (if1 .left) (spacing-of .ensures)
-    (searched .ensures)
+    let f = c .before .before .before .before .before in
+    let s = f .before .before .before in
+    let e = s .before .before in
+    let a = start (e .before) .args in
+    c .answer-of2 .ensures ∙ search-found _ (a .spacing) (a .km) (s .spacing-of .result) (f .searched .result) (e .if1 .left) (s .spacing-of .ensures)
+    (f .searched .ensures)
 
 pub search-at-spec : {M : Type 1} → statement M
 search-at-spec =

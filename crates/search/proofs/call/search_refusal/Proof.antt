@@ -1,79 +1,77 @@
 -- `search::call::search_refusal`: one question after another.
 use mathlib.Core.Path.{_≡_, sym, _∙_}
 use mathlib.Core.Bool.{true}
-use borrow.Author.Tests.{not-true, not-false}
 use denote.Ref.{now}
-use Rattle.grid.proofs.Answers.{Passed, map-passed}
-use Rattle.search.specs.Call.{buffersFit}
-use Rattle.kernel.specs.Call.{radiusInRange}
-use Rattle.search.proofs.SearchCalls.{refused-map, refused-7, refused-8, refused-10, accepted}
 use borrow.Author.Needs.{needs}
+use Rattle.grid.specs.Map.{lentMap}
+use Rattle.grid.specs.Answer.{firstNo}
+use Rattle.grid.specs.Questions.{mapQuestions}
+use Rattle.grid.proofs.General.{said-no, said-yes}
+use Rattle.grid.proofs.Answers.{asked-yes, asked-no, asked-none, refused-before, after-map}
+use Rattle.kernel.specs.Call.{radiusInRange}
+use Rattle.search.specs.Call.{buffersFit, searchQuestions}
 use Rattle.search.proofs.call.search_refusal.Statement.{statement}
 use Rattle.search.proofs.call.search_refusal.Tie as tie
 
--- past the map's questions
+-- past the map's questions, past that of the buffers, and past that of the radius
 abbrev start : tie.Else1 → tie.Start
 start e = e .before .before .before .before .before .before .before .before
 
-passed : (e : tie.Else1)
-    → Passed (record {
-      globe = record { grid = start e .args .grid; angles = now (start e .args .angles); cosines = now (start e .args .cosines) };
-      counts = now (start e .args .counts);
-    })
-passed e = map-passed _ (sym (e .before .map-refusal .ensures) ∙ e .if1 .left)
+abbrev past-7 : tie.Else3 → tie.Else2
+past-7 e = e .before .before
 
--- past the question of the buffers, and past that of the radius
-fits : (e : tie.Else2)
-    → buffersFit (start (e .before .before) .args .grid)
-    (record {
-      sums = now (start (e .before .before) .args .sums);
-      near = now (start (e .before .before) .args .near);
-      far = now (start (e .before .before) .args .far);
-    })
-    ≡ true
-fits e = sym (e .before .buffers-fit .ensures) ∙ not-false (e .before .buffers-fit .result) (e .if2 .left)
+abbrev past-map : tie.Else2 → tie.Else1
+past-map e = e .before .before
 
-in-range : (e : tie.Else3) → radiusInRange (start (e .before .before .before .before) .args .grid) (start (e .before .before .before .before) .args .km) ≡ true
-in-range e = sym (e .before .radius-in-range .ensures) ∙ not-false (e .before .radius-in-range .result) (e .if3 .left)
+map-yes : (e : tie.Else1) → let a = start e .args in firstNo (mapQuestions (lentMap (a .grid) (now (a .counts)) (now (a .angles)) (now (a .cosines)))) ≡ 0
+map-yes e = sym (e .before .map-refusal .ensures) ∙ e .if1 .left
+
+fits : (e : tie.Else2) → let a = start (past-map e) .args in
+    buffersFit (a .grid) (record { sums = now (a .sums); current = now (a .current); following = now (a .following) }) ≡ true
+fits e = said-yes (e .before .buffers-fit .ensures) (e .if2 .left)
+
+in-range : (e : tie.Else3) → let a = start (past-map (past-7 e)) .args in radiusInRange (a .grid) (a .km) ≡ true
+in-range e = said-yes (e .before .radius-in-range .ensures) (e .if3 .left)
 
 map-refusal-requires : tie.Need-map-refusal-requires
 map-refusal-requires c κs = search needs
 
 returns : tie.Need-returns
-returns c = let asked = c .before .map-refusal in refused-map _ _ _ _ (asked .result) (asked .ensures) (c .if1 .taken)
+unfolding searchQuestions
+returns c = refused-before _ _ (c .before .map-refusal .ensures) (c .if1 .taken)
 
 buffers-fit-requires : tie.Need-buffers-fit-requires
 buffers-fit-requires c κs = search needs
 
 returns-2 : tie.Need-returns-2
-returns-2 c =
-    let asked = c .before .buffers-fit in refused-7 _ _ _ _ (passed (c .before .before)) (sym (asked .ensures) ∙ not-true (asked .result) (c .if2 .taken))
+unfolding searchQuestions
+returns-2 c = after-map _ _ (map-yes (c .before .before)) (asked-no _ (said-no (c .before .buffers-fit .ensures) (c .if2 .taken)))
 
 radius-in-range-requires : tie.Need-radius-in-range-requires
 radius-in-range-requires c κs = search needs
 
 returns-3 : tie.Need-returns-3
+unfolding searchQuestions
 returns-3 c =
     let e = c .before .before in
-    let asked = c .before .radius-in-range in
-    refused-8 _ _ _ _ (passed (e .before .before)) (fits e) (sym (asked .ensures) ∙ not-true (asked .result) (c .if3 .taken))
+    after-map _ _ (map-yes (past-map e)) (asked-yes 7 _ (fits e) (asked-no _ (said-no (c .before .radius-in-range .ensures) (c .if3 .taken))))
 
 spacing-given-requires : tie.Need-spacing-given-requires
 spacing-given-requires c κs = search needs
 
 returns-4 : tie.Need-returns-4
+unfolding searchQuestions
 returns-4 c =
     let e = c .before .before in
-    let asked = c .before .spacing-given in
-    refused-10 _ _ _ _ (passed (e .before .before .before .before)) (fits (e .before .before)) (in-range e)
-    (sym (asked .ensures) ∙ not-true (asked .result) (c .if4 .taken))
+    after-map _ _ (map-yes (past-map (past-7 e)))
+    (asked-yes 7 _ (fits (past-7 e)) (asked-yes 8 _ (in-range e) (asked-no _ (said-no (c .before .spacing-given .ensures) (c .if4 .taken)))))
 
 returns-5 : tie.Need-returns-5
+unfolding searchQuestions
 returns-5 c =
     let e = c .before .before in
-    let asked = c .before .spacing-given in
-    accepted _ _ _ _ (passed (e .before .before .before .before)) (fits (e .before .before)) (in-range e)
-    (sym (asked .ensures) ∙ not-false (asked .result) (c .if4 .left))
+    after-map _ _ (map-yes (past-map (past-7 e)))
+    (asked-yes 7 _ (fits (past-7 e)) (asked-yes 8 _ (in-range e) (asked-yes 10 _ (said-yes (c .before .spacing-given .ensures) (c .if4 .left)) asked-none)))
 
 pub search-refusal-spec : {M : Type 1} → statement M
 search-refusal-spec =

@@ -1,12 +1,18 @@
 -- `search::descend::nothing`: nothing held, every count 0.
-use mathlib.Core.Path.{refl}
 use Rattle.levels.specs.Level.{noTally, noStats}
+use borrow.Author.Needs.{needs}
 use Rattle.search.proofs.descend.nothing.Statement.{statement}
 use Rattle.search.proofs.descend.nothing.Tie as tie
 
+of-requires : tie.Need-of-requires
+of-requires c κs = search needs
+
+of-requires-2 : tie.Need-of-requires-2
+of-requires-2 c κs = search needs
+
 returns : tie.Need-returns
 unfolding noTally noStats
-returns c = refl
+returns c = rw (c .of2 .ensures, c .before .of .ensures)
 
 pub nothing-spec : {M : Type 1} → statement M
-nothing-spec = tie.close (tie.spec returns)
+nothing-spec = tie.close (tie.spec of-requires of-requires-2 returns)

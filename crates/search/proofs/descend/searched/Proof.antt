@@ -8,85 +8,84 @@ use Rattle.search.proofs.descend.searched.Statement.{statement}
 use Rattle.search.proofs.descend.searched.Tie as tie
 
 abbrev Inv-loop : tie.InvT-loop
-Inv-loop grid angles cosines sums km spacing near₀ far₀ live₀ found₀ near far live found = Descending grid angles cosines sums km spacing near₀ far₀ near far live found
+Inv-loop grid angles cosines sums km spacing current₀ following₀ live₀ found₀ current following live found = Descending grid angles cosines sums km spacing current₀ following₀ current following live found
 
 abbrev μ-loop : tie.MeasureT-loop
-μ-loop grid angles cosines sums km spacing near₀ far₀ live₀ found₀ near far live found = grid .width + grid .height - found .tally .stats .levels
+μ-loop grid angles cosines sums km spacing current₀ following₀ live₀ found₀ current following live found = grid .width + grid .height - found .tally .stats .levels
+
+-- the start, the first level, and the start seen from the head of the loop
+abbrev start : tie.After-first-level-arg2 Inv-loop μ-loop → tie.Start Inv-loop μ-loop
+start c = c .before .before .before .before .before .before .before
+
+abbrev first : tie.After-nothing Inv-loop μ-loop → tie.After-first-level Inv-loop μ-loop
+first c = c .before .before .before .before .before
+
+abbrev begun : tie.At-loop Inv-loop μ-loop → tie.Start Inv-loop μ-loop
+begun h = start (first (h .before) .before)
+
+-- a turn: its level, from where the counts are added; the counts added, from its end; and its beginning, from its level
+abbrev turn : tie.After-with-level Inv-loop μ-loop → tie.After-level Inv-loop μ-loop
+turn c = c .before .before .before
+
+abbrev added : tie.After-slice-known6 Inv-loop μ-loop → tie.After-with-level Inv-loop μ-loop
+added c = c .before .before .before .before .before
+
+abbrev entered : tie.After-level Inv-loop μ-loop → tie.In-loop Inv-loop μ-loop
+entered v = v .before .before .before
 
 first-level-requires : tie.Need-first-level-requires Inv-loop μ-loop
-first-level-requires c κs = c .before .before .before .before .before .before .before .pre .1
+first-level-requires c κs = start c .pre .1
 
 nothing-requires : tie.Need-nothing-requires Inv-loop μ-loop
 nothing-requires c κs = search needs
 
 loop-holds : tie.Need-loop-holds Inv-loop μ-loop
 loop-holds c =
-    let st = c .before .before .before .before .before .before .before .before .before .before .before .before .before in
-    let f = c .before .before .before .before .before .first-level in
+    let f = first c .first-level in
+    let p = start (first c .before) .pre in
     rw (c .nothing .ensures)
-    (descend-start _ _ _ _ _ _ _ _ (st .pre .0) (omega (arith, st .pre .1 .near-room, f .kept)) (omega (arith, st .pre .1 .far-room, f .kept))
-    (f .result) (f .ensures))
+    (descend-start _ _ _ _ _ _ _ _ (p .0) (omega (arith, p .1 .current-room, f .kept)) (omega (arith, p .1 .following-room, f .kept)) _ (f .ensures))
 
 level-requires : tie.Need-level-requires Inv-loop μ-loop
 level-requires c κs =
-    let st = c .before .before .before .before .before .before .before .before .before .before .before .before .before .before .before .before .before in
-    let l = c .before .before .before .loop in (
-      st .pre .0,
-      (
-        descend-words _ _ _ _ _ _ _ _ (st .pre .0) (l .near) (l .far) (l .live) (l .found) (l .inv),
-        descend-sweeps _ _ _ _ _ _ _ _ (st .pre .0) (l .near) (l .far) (l .live) (l .found) (l .inv),
-      ),
-    )
+    let h = c .before .before .before in
+    (begun h .pre .0, (descend-words _ _ _ _ _ _ _ _ (begun h .pre .0) _ _ _ _ (h .loop .inv), descend-sweeps _ _ _ _ _ _ _ _ (begun h .pre .0) _ _ _ _ (h .loop .inv)))
 
 with-level-requires : tie.Need-with-level-requires Inv-loop μ-loop
 with-level-requires c κs =
-    let level = c .before .before .level in
-    let st = c .before .before .before .before .before .before .before .before .before .before .before .before .before .before .before .before .before .before .before .before in
-    let l = c .before .before .before .before .before .before .loop in
-    descend-light _ _ _ _ _ _ _ _ (st .pre .0) (l .near) (l .far) (l .live) (l .found) (l .inv)
-    (c .before .before .before .before .before .loop-test .taken) (level .result) _ (level .ensures)
+    let v = c .before .before in
+    let h = entered v .before in
+    descend-light _ _ _ _ _ _ _ _ (begun h .pre .0) _ _ _ _ (h .loop .inv) (entered v .loop-test .taken) _ _ (v .level .ensures)
 
 insert-from-requires : tie.Need-insert-from-requires Inv-loop μ-loop
 insert-from-requires c κs =
-    let loop-test = c .before .before .before .before .before .before .before .before .loop-test in
-    let level = c .before .before .before .before .before .level in
-    let st = c .before .before .before .before .before .before .before .before .before .before .before .before .before .before .before .before .before .before .before .before .before .before .before in
-    let l = c .before .before .before .before .before .before .before .before .before .loop in
-    descend-takes _ _ _ _ _ _ _ _ (st .pre .0) (l .near) (l .far) (l .live) (l .found) (l .inv) (loop-test .taken) (level .result) _ (level .ensures)
-    (level .kept .1 .1 .1 .1 .1 .1 .1 .1 .0)
+    let v = turn (c .before .before) in
+    let h = entered v .before in
+    descend-takes _ _ _ _ _ _ _ _ (begun h .pre .0) _ _ _ _ (h .loop .inv) (entered v .loop-test .taken) _ _ (v .level .ensures) (v .level .kept .1 .1 .1 .1 .1 .1 .1 .1 .0)
 
 loop-less : tie.Need-loop-less Inv-loop μ-loop
 loop-less c =
-    let loop-test = c .before .before .before .before .before .before .before .before .before .before .before .loop-test in
-    let level = c .before .before .before .before .before .before .before .before .level in
-    let st = c .before .before .before .before .before .before .before .before .before .before .before .before .before .before .before .before .before .before .before .before .before .before .before .before .before .before in
-    let l = c .before .before .before .before .before .before .before .before .before .before .before .before .loop in
-    rw (c .before .before .before .before .before .with-level .ensures)
-    (descend-less _ _ _ _ _ _ _ _ (st .pre .0) (l .near) (l .far) (l .live) (l .found) (l .inv) (loop-test .taken) (level .result) _ (level .ensures)
-    (level .kept .1 .1 .1 .1 .1 .1 .1 .1 .0))
+    let v = turn (added c) in
+    let h = entered v .before in
+    rw (added c .with-level .ensures) (descend-less _ _ _ _ _ _ _ _ (begun h .pre .0) _ _ _ _ (h .loop .inv) (entered v .loop-test .taken) _ _ (v .level .ensures) (v .level .kept .1 .1 .1 .1 .1 .1 .1 .1 .0))
 
 loop-again : tie.Need-loop-again Inv-loop μ-loop
 loop-again c =
-    let loop-test = c .before .before .before .before .before .before .before .before .before .before .before .loop-test in
-    let level = c .before .before .before .before .before .before .before .before .level in
-    let insert-from = c .before .before .insert-from in
-    let st = c .before .before .before .before .before .before .before .before .before .before .before .before .before .before .before .before .before .before .before .before .before .before .before .before .before .before in
-    let l = c .before .before .before .before .before .before .before .before .before .before .before .before .loop in
-    rw (c .before .before .before .before .before .with-level .ensures)
-    (descend-next _ _ _ _ _ _ _ _ (st .pre .0) (l .near) (l .far) (l .live) (l .found) (l .inv) (loop-test .taken) (level .result) _ (level .ensures)
-    (level .kept .1 .1 .1 .1 .1 .1 .1 .1 .0) _ (insert-from .kept .1 .1 .0) (insert-from .ensures))
+    let v = turn (added c) in
+    let h = entered v .before in
+    let i = c .before .before .insert-from in
+    rw (added c .with-level .ensures) (descend-next _ _ _ _ _ _ _ _ (begun h .pre .0) _ _ _ _ (h .loop .inv) (entered v .loop-test .taken) _ _ (v .level .ensures) (v .level .kept .1 .1 .1 .1 .1 .1 .1 .1 .0) _ (i .kept .1 .1 .0) (i .ensures))
 
 same-length : tie.Need-same-length Inv-loop μ-loop
-same-length c = c .before .loop .inv .near-size ∙ c .before .before .before .before .before .before .before .first-level .kept .1 .1 .0
+same-length c = c .before .loop .inv .current-size ∙ first (c .before .before) .first-level .kept .1 .1 .0
 
 same-length-2 : tie.Need-same-length-2 Inv-loop μ-loop
-same-length-2 c = c .before .loop .inv .far-size ∙ c .before .before .before .before .before .before .before .first-level .kept .1 .1 .1 .0
+same-length-2 c = c .before .loop .inv .following-size ∙ first (c .before .before) .first-level .kept .1 .1 .1 .0
 
 returns : tie.Need-returns Inv-loop μ-loop
 returns c =
-    let st = c .before .before .before .before .before .before .before .before .before .before .before .before .before .before .before in
-    let l = c .before .loop in
-    descend-done _ _ _ _ _ _ _ _ (st .pre .0) (l .near) (l .far) (l .live) (l .found) (l .inv) (c .loop-test .left)
+    let h = c .before in
+    descend-done _ _ _ _ _ _ _ _ (begun h .pre .0) _ _ _ _ (h .loop .inv) (c .loop-test .left)
 
 pub searched-spec : {M : Type 1} → statement M
 searched-spec =

@@ -1,5 +1,5 @@
 -- `search::descend::with_level`: the counts added.
-use Rattle.search.specs.Buffer.{withLevel}
+use Rattle.search.specs.State.{withLevel}
 use borrow.Author.Needs.{needs}
 use Rattle.search.proofs.descend.with_level.Statement.{statement}
 use Rattle.search.proofs.descend.with_level.Tie as tie

@@ -1,15 +1,15 @@
--- `smallest::call::settle`: the people, the target and the slack, the run, and the answer from its end.
-use Rattle.smallest.specs.Settling.{CanSettle}
-use Rattle.smallest.proofs.SmallestCalls.{can-run, can-conclude, is-settled}
-use denote.Ref.{now}
+-- `smallest::call::settle`: the total, the target and the slack, the run, and the answer from its end.
 use borrow.Author.Needs.{needs}
+use Rattle.smallest.proofs.SmallestCalls.{can-run, can-conclude, is-settled}
 use Rattle.smallest.proofs.call.settle.Statement.{statement}
 use Rattle.smallest.proofs.call.settle.Tie as tie
 
--- what it was told
-can : (st : tie.Start)
-    → CanSettle (st .args .grid) (now (st .args .angles)) (now (st .args .cosines)) (now (st .args .sums)) (now (st .args .near)) (now (st .args .far)) (st .args .ledger)
-can st = st .pre
+-- from where the slack is known to what was told, and from where the run has ended to the slack
+abbrev start : tie.After-predicate-slack-persons → tie.Start
+start k = k .before .before .before .before .before .before .before .before
+
+abbrev known : tie.After-run → tie.After-predicate-slack-persons
+known r = r .before .before .before
 
 total-requires : tie.Need-total-requires
 total-requires c κs = search needs
@@ -22,20 +22,14 @@ predicate-slack-persons-requires c κs = search needs
 
 run-requires : tie.Need-run-requires
 run-requires c κs =
-    let st = c .before .before .before .before .before .before .before .before .before .before in
-    let total = c .before .before .before .before .total in
-    let target = c .before .before .before .target-of in
-    let slack = c .before .before .predicate-slack-persons in
-    can-run (can st) (st .args .spacing) (total .ensures) (target .ensures) (slack .ensures)
+    let k = c .before .before in
+    can-run (start k .pre) (start k .args .spacing) (k .before .before .total .ensures) (k .before .target-of .ensures) (k .predicate-slack-persons .ensures)
 
 conclude-requires : tie.Need-conclude-requires
 conclude-requires c κs =
-    let run = c .before .before .before .before .before .before .run in
-    let st = c .before .before .before .before .before .before .before .before .before .before .before .before .before .before .before .before .before in
-    let total = c .before .before .before .before .before .before .before .before .before .before .before .total in
-    let target = c .before .before .before .before .before .before .before .before .before .before .target-of in
-    let slack = c .before .before .before .before .before .before .before .before .before .predicate-slack-persons in
-    can-conclude (can st) (st .args .spacing) (total .ensures) (target .ensures) (slack .ensures) (run .ensures)
+    let r = c .before .before .before .before .before .before in
+    let k = known r in
+    can-conclude (start k .pre) (start k .args .spacing) (k .before .before .total .ensures) (k .before .target-of .ensures) (k .predicate-slack-persons .ensures) (r .run .ensures)
 
 same-length : tie.Need-same-length
 same-length c = search needs
@@ -45,12 +39,10 @@ same-length-2 c = search needs
 
 returns : tie.Need-returns
 returns c =
-    let run = c .before .before .before .before .before .before .before .before .run in
-    let st = c .before .before .before .before .before .before .before .before .before .before .before .before .before .before .before .before .before .before .before in
-    let total = c .before .before .before .before .before .before .before .before .before .before .before .before .before .total in
-    let target = c .before .before .before .before .before .before .before .before .before .before .before .before .target-of in
-    let slack = c .before .before .before .before .before .before .before .before .before .before .before .predicate-slack-persons in
-    is-settled (can st) (st .args .spacing) (total .ensures) (target .ensures) (slack .ensures) (run .ensures) (c .before .conclude .ensures)
+    let r = c .before .before .before .before .before .before .before .before in
+    let k = known r in
+    is-settled (start k .pre) (start k .args .spacing) (k .before .before .total .ensures) (k .before .target-of .ensures) (k .predicate-slack-persons .ensures) (r .run .ensures)
+    (c .before .conclude .ensures)
 
 pub settle-spec : {M : Type 1} → statement M
 settle-spec =

@@ -1,31 +1,31 @@
 -- `smallest::call::smallest_radius`: refused with nothing written, or accepted, filled and settled.
-use Rattle.smallest.specs.Call.{smallestQuestions}
-use Rattle.search.specs.Call.{Buffers}
-use Rattle.grid.specs.Answer.{firstNo}
-use Rattle.grid.specs.Map.{Map}
-use mathlib.Core.Path.{_≡_}
-use Rattle.grid.specs.Answer.{shown}
-use Rattle.smallest.proofs.SmallestCalls.{SmallestPassed, smallest-passed, smallest-refused, smallest-answered, to-fill, to-settle, sums-filled, settled-map}
-use Rattle.smallest.specs.Call.{smallestAnswer}
+use mathlib.Core.Path.{_≡_, sym, _∙_}
 use denote.Ref.{now}
-use mathlib.Core.Path.{sym, _∙_}
 use borrow.Author.Needs.{needs}
+use Rattle.grid.specs.Answer.{firstNo, shown}
+use Rattle.grid.specs.Map.{Map, lentMap}
+use Rattle.search.specs.Call.{Buffers, buffers}
+use Rattle.smallest.specs.Call.{smallestQuestions, smallestAnswer}
+use Rattle.smallest.proofs.SmallestCalls.{SmallestPassed, smallest-passed, smallest-refused, smallest-answered, to-fill, to-settle, sums-filled, settled-map}
 use Rattle.smallest.proofs.call.smallest_radius.Statement.{statement}
 use Rattle.smallest.proofs.call.smallest_radius.Tie as tie
 
 abbrev given : tie.Start → Map
-given st =
-    record {
-      globe = record { grid = st .args .grid; angles = now (st .args .angles); cosines = now (st .args .cosines) };
-      counts = now (st .args .counts);
-    }
+given st = lentMap (st .args .grid) (now (st .args .counts)) (now (st .args .angles)) (now (st .args .cosines))
 
 abbrev lent : tie.Start → Buffers
-lent st = record { sums = now (st .args .sums); near = now (st .args .near); far = now (st .args .far) }
+lent st = buffers (now (st .args .sums)) (now (st .args .current)) (now (st .args .following))
 
--- past the questions
+-- past the questions: the first fact of the counts, and what was told before it
+abbrev counted : tie.Else1 → tie.After-shared-slice-known
+counted e = e .before .before .before .before .before .before .before .before .before .before
+
 abbrev start : tie.Else1 → tie.Start
-start e = e .before .before .before .before .before .before .before .before .before .before .before
+start e = counted e .before
+
+-- where the sums are filled, before the smallest radius is settled
+abbrev filled : tie.After-settle-arg3 → tie.After-fill-sums
+filled a = a .before .before .before .before .before
 
 asked-none : (e : tie.Else1) → firstNo (smallestQuestions (given (start e)) (start e .args .spacing) (start e .args .share) (start e .args .ledger) (lent (start e))) ≡ 0
 asked-none e = sym (e .before .smallest-refusal .ensures) ∙ e .if1 .left
@@ -52,14 +52,13 @@ returns c =
     smallest-refused _ _ _ _ _ (asked .result) (asked .ensures) (c .if1 .taken)
 
 fill-sums-requires : tie.Need-fill-sums-requires
-fill-sums-requires c κs =
-    to-fill (passed (c .before))
+fill-sums-requires c κs = to-fill (passed (c .before))
 
 settle-requires : tie.Need-settle-requires
 settle-requires c κs =
-    let shared-slice-known = c .before .before .before .before .before .before .before .before .before .before .before .before .before .before .before .before .before .shared-slice-known in
-    let then = c .before .before .before .before .before .before .before in
-    to-settle (passed then) _ (c .before .before .before .before .before .fill-sums .ensures) (λ i. shared-slice-known .given i .fits)
+    let f = filled c in
+    let e = f .before .before in
+    to-settle (passed e) _ (f .fill-sums .ensures) (λ i. counted e .shared-slice-known .given i .fits)
 
 same-length-4 : tie.Need-same-length-4
 same-length-4 c = search needs
@@ -72,11 +71,11 @@ same-length-6 c = search needs
 
 returns-2 : tie.Need-returns-2
 returns-2 c =
-    let settle = c .before .before .before .before .settle in
-    let e = c .before .before .before .before .before .before .before .before .before .before .before .before in
-    let filled = c .before .before .before .before .before .before .before .before .before .before .fill-sums in
-    smallest-answered _ _ _ _ _ (settle .result) _ _ _ (asked-none e) (settled-map (passed e) _ (filled .ensures) (settle .ensures))
-    (sums-filled (passed e) _ (filled .ensures)) (search needs) (search needs)
+    let r = c .before .before .before .before in
+    let f = filled (r .before) in
+    let e = f .before .before in
+    smallest-answered _ _ _ _ _ (r .settle .result) _ _ _ (asked-none e) (settled-map (passed e) _ (f .fill-sums .ensures) (r .settle .ensures))
+    (sums-filled (passed e) _ (f .fill-sums .ensures)) (search needs) (search needs)
 
 pub smallest-radius-spec : {M : Type 1} → statement M
 smallest-radius-spec =

@@ -1,50 +1,45 @@
 -- `smallest::call::smallest_refusal`: the questions of a map, that of the buffers, and the call's own.
-use Rattle.grid.proofs.Answers.{Passed, map-passed}
-use Rattle.grid.specs.Map.{Map}
-use Rattle.smallest.proofs.SmallestCalls.{refused-map, refused-7, refused-own}
-use Rattle.grid.proofs.Answers.{map-passed}
+use mathlib.Core.Path.{_≡_, sym, _∙_}
 use denote.Ref.{now}
-use borrow.Author.Tests.{not-true, not-false}
-use mathlib.Core.Path.{sym, _∙_}
 use borrow.Author.Needs.{needs}
+use Rattle.grid.specs.Map.{lentMap}
+use Rattle.grid.specs.Answer.{firstNo}
+use Rattle.grid.specs.Questions.{mapQuestions}
+use Rattle.grid.proofs.General.{said-no, said-yes}
+use Rattle.grid.proofs.Answers.{asked-yes, asked-no, refused-before, after-map}
+use Rattle.smallest.specs.Call.{smallestQuestions}
 use Rattle.smallest.proofs.call.smallest_refusal.Statement.{statement}
 use Rattle.smallest.proofs.call.smallest_refusal.Tie as tie
 
-abbrev given : tie.Start → Map
-given st =
-    record {
-      globe = record { grid = st .args .grid; angles = now (st .args .angles); cosines = now (st .args .cosines) };
-      counts = now (st .args .counts);
-    }
-
 -- past the map's questions
-passed : (e : tie.Else1) → Passed (given (e .before .before .before .before .before .before .before .before))
-passed e = map-passed _ (sym (e .before .map-refusal .ensures) ∙ e .if1 .left)
+abbrev start : tie.Else1 → tie.Start
+start e = e .before .before .before .before .before .before .before .before
+
+map-yes : (e : tie.Else1) → let a = start e .args in firstNo (mapQuestions (lentMap (a .grid) (now (a .counts)) (now (a .angles)) (now (a .cosines)))) ≡ 0
+map-yes e = sym (e .before .map-refusal .ensures) ∙ e .if1 .left
 
 map-refusal-requires : tie.Need-map-refusal-requires
 map-refusal-requires c κs = search needs
 
 returns : tie.Need-returns
-returns c =
-    let asked = c .before .map-refusal in
-    refused-map _ _ _ _ _ (asked .result) (asked .ensures) (c .if1 .taken)
+unfolding smallestQuestions
+returns c = refused-before _ _ (c .before .map-refusal .ensures) (c .if1 .taken)
 
 buffers-fit-requires : tie.Need-buffers-fit-requires
 buffers-fit-requires c κs = search needs
 
 returns-2 : tie.Need-returns-2
-returns-2 c =
-    let asked = c .before .buffers-fit in
-    refused-7 _ _ _ _ _ (passed (c .before .before)) (sym (asked .ensures) ∙ not-true (asked .result) (c .if2 .taken))
+unfolding smallestQuestions
+returns-2 c = after-map _ _ (map-yes (c .before .before)) (asked-no _ (said-no (c .before .buffers-fit .ensures) (c .if2 .taken)))
 
 own-refusal-requires : tie.Need-own-refusal-requires
 own-refusal-requires c κs = search needs
 
 returns-3 : tie.Need-returns-3
+unfolding smallestQuestions
 returns-3 c =
-    let asked = c .before .before .buffers-fit in
-    refused-own _ _ _ _ _ (passed (c .before .before .before)) (sym (asked .ensures) ∙ not-false (asked .result) (c .before .if2 .left))
-    (c .own-refusal .result) (c .own-refusal .ensures)
+    let e = c .before in
+    after-map _ _ (map-yes (e .before .before)) (asked-yes 7 _ (said-yes (e .before .buffers-fit .ensures) (e .if2 .left)) (c .own-refusal .ensures))
 
 pub smallest-refusal-spec : {M : Type 1} → statement M
 smallest-refusal-spec =

@@ -1,0 +1,108 @@
+-- What the outcome of a call gives at the boundary, by the case of its answer.
+use mathlib.Core.Path.{_≡_, refl, ap, sym}
+use Prim.Native.Nat.{ℕ, zero, suc}
+use mathlib.Core.Bool.{true, false, true≢false}
+use native.Mathlib.Omega.{arith}
+use lib.Ieee.{Float}
+use lib.ListN.{length}
+use mathlib.Core.List.{List}
+use Rattle.grid.specs.declared.Cell.{Cell}
+use Rattle.grid.specs.Map.{Map}
+use Rattle.grid.specs.declared.Grid.{Grid}
+use Rattle.grid.specs.Answer.{Answer, answered, refused, decide, after, shown, firstNo}
+use Rattle.bounds.specs.declared.Spacing.{Spacing}
+use Rattle.search.specs.declared.MostPopulous.{MostPopulous}
+use Rattle.search.specs.declared.SearchAnswer.{SearchAnswer}
+use Rattle.search.specs.declared.SearchAnswer.the-variants as search-answer
+use Rattle.search.specs.Search.{search}
+use Rattle.search.specs.Call.{Buffers, buffers, SearchOutcome, searchQuestions, searchCall, searchAnswer}
+use Rattle.candidates.specs.declared.Candidate.{Candidate}
+use Rattle.ledger.specs.declared.Ledger.{Ledger}
+use Rattle.ledger.specs.declared.PutAnswer.{PutAnswer}
+use Rattle.ledger.specs.declared.PutAnswer.the-variants as put-answer
+use Rattle.ledger.specs.Ledger.{entry}
+use Rattle.ledger.specs.Call.{PutOutcome, putQuestions, putCall, putAnswer}
+use Rattle.ledger.proofs.Calls.{put-room}
+use Rattle.words.specs.Words.{ledgerLength, ledgerOf, ledgerWords}
+use Rattle.words.proofs.Places.{counted-fits, fits-length}
+use Rattle.kernel.specs.declared.CircleAnswer.{CircleAnswer}
+use Rattle.kernel.specs.declared.CircleAnswer.the-variants as circle-answer
+use Rattle.kernel.specs.Call.{CircleOutcome, circleCall, circleAnswer}
+use Rattle.jadurphen.specs.Crossing.{numberOf, written}
+use Rattle.jadurphen.specs.Calls.{circleReturned, circleCrossed, circleCrossing, searchWords, searchReturned, searchCrossed, searchCrossing, putReturned, putCrossed, putCrossing}
+
+-- ---- answers
+
+-- answered, so no question says no
+pub no-refusal : {A : Type 0} (n : ℕ) (a b : A) → answered b ≡ decide n a → n ≡ 0
+unfolding decide numberOf
+no-refusal zero a b e = refl
+no-refusal (suc n) a b e = sym (ap numberOf e)
+
+-- a refusal's number is above 0, so it says a refusal by itself
+pub still-refused : {A B : Type 0} (k n : ℕ) (a : A) (b : B) → refused n ≡ decide k a → decide n b ≡ refused n
+unfolding decide after numberOf
+still-refused k (suc n) a b e = refl
+still-refused zero zero a b e = absurd (true≢false (sym (ap (λ (x : Answer _). after x true false) e)))
+still-refused (suc k) zero a b e = let above : 0 ≡ suc k = ap numberOf e in absurd (omega arith)
+
+-- ---- the single circle
+
+module _ (m : Map) (before : List ℕ) (km : ℕ) (centre : Cell) (held : ℕ) (r : CircleAnswer) (sums : List ℕ) where
+  abbrev CircleGave : Type 0
+  CircleGave = _≡_ {A = CircleOutcome} (record { answer = circleAnswer r; sums = sums }) (circleCall m before km centre)
+
+  pub circle-answered : (n : ℕ) → CircleGave → r ≡ circle-answer.Population n → circleReturned 0 n sums ≡ circleCrossing m before km centre held
+  unfolding circleCrossing circleCrossed circleAnswer numberOf written
+  circle-answered n gave is = rw (← gave, is)
+
+  pub circle-refused : (n : ℕ) → CircleGave → r ≡ circle-answer.Refused n → circleReturned n held sums ≡ circleCrossing m before km centre held
+  unfolding circleCrossing circleCrossed circleAnswer numberOf written
+  circle-refused n gave is = rw (← gave, is)
+
+-- ---- the search
+
+module _ (m : Map) (spacing : Spacing) (km : ℕ) (lent : Buffers) (words : List ℕ) (tolerance : Float) (r : SearchAnswer)
+    (sums current following : List ℕ) (side : Spacing) (chosen : side ≡ spacing) where
+  abbrev SearchGave : Type 0
+  SearchGave =
+      _≡_ {A = SearchOutcome} (record { answer = searchAnswer r; lent = buffers sums (shown (searchAnswer r) current) (shown (searchAnswer r) following) })
+      (searchCall m side km lent)
+
+  pub search-found : (f : MostPopulous) (w : List ℕ) → SearchGave → r ≡ search-answer.Found f → w ≡ searchWords f
+      → searchReturned 0 w (f .«tolerance_persons») sums current following ≡ searchCrossing m spacing km lent words tolerance
+  unfolding searchCrossing searchCrossed searchAnswer numberOf written decide shown
+  search-found f w gave is e = rw (← chosen, ← gave, is, e)
+
+  said : (n : ℕ) → SearchGave → r ≡ search-answer.Refused n → decide n (tt {0}) ≡ refused n
+  unfolding searchCall searchAnswer
+  said n gave is =
+      let k = firstNo (searchQuestions m side km lent) in
+      let answer : searchAnswer r ≡ decide k (search m side km) = ap (λ (o : SearchOutcome). o .answer) gave in
+      still-refused k n (search m side km) tt (rw is at answer)
+
+  pub search-refused : (n : ℕ) → SearchGave → r ≡ search-answer.Refused n
+      → searchReturned n words tolerance sums current following ≡ searchCrossing m spacing km lent words tolerance
+  unfolding searchCrossing searchCrossed searchAnswer numberOf written shown
+  search-refused n gave is = rw (said n gave is, ← chosen, ← gave, is)
+
+-- ---- the put
+
+module _ (g : Grid) (words : List ℕ) (km : ℕ) (centre c : Candidate) (made : c ≡ centre) (l : Ledger) (read : l ≡ ledgerOf words) (r : PutAnswer) (l′ : Ledger) where
+  abbrev PutGave : Type 0
+  PutGave = _≡_ {A = PutOutcome} (record { answer = putAnswer r; ledger = l′ }) (putCall g l (entry km c))
+
+  pub put-fits : PutGave → r ≡ put-answer.Done → length words ≡ ledgerLength
+  unfolding putCall putAnswer
+  put-fits gave is =
+      let answer : putAnswer r ≡ decide (firstNo (putQuestions g l (entry km c))) tt = ap (λ (o : PutOutcome). o .answer) gave in
+      let none = no-refusal (firstNo (putQuestions g l (entry km c))) tt tt (rw is at answer) in
+      fits-length words (counted-fits words (rw read at (put-room g l (entry km c) none .counted)))
+
+  pub put-done : (w : List ℕ) → PutGave → r ≡ put-answer.Done → w ≡ ledgerWords l′ → putReturned 0 w ≡ putCrossing g words (entry km centre)
+  unfolding putCrossing putCrossed putAnswer numberOf after
+  put-done w gave is e = rw (← made, ← read, ← gave, is, e)
+
+  pub put-refused : (n : ℕ) → PutGave → r ≡ put-answer.Refused n → putReturned n words ≡ putCrossing g words (entry km centre)
+  unfolding putCrossing putCrossed putAnswer numberOf after
+  put-refused n gave is = rw (← made, ← read, ← gave, is)

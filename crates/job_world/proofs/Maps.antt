@@ -1,0 +1,132 @@
+-- The map under way in the state's arrays: a change of an array is that change of the map.
+use Prim.Native.Nat.{ℕ, zero, suc, _+_, _*_, _/_, _≤_, _<_, min}
+use mathlib.Core.Path.{_≡_, refl, sym, _∙_, ap}
+use mathlib.Core.Bool.{true}
+use mathlib.Core.List.{List, [], _∷_}
+use native.Mathlib.Omega.{arith}
+use borrow.Author.Tests.{ltb-true, ltb-false, leb-true}
+use lib.Dec.{leb, ltb}
+use lib.Ieee.{Float}
+use lib.ListN.{length, take, set, replicate}
+use lib.Seq.{set-out}
+use Rattle.floats.specs.Binary.{whole}
+use Rattle.lists.proofs.Bools.{cases, and-left, and-right}
+use Rattle.lists.proofs.Sums.{times-le}
+use Rattle.grid.specs.declared.Cell.{Cell}
+use Rattle.grid.specs.declared.Grid.{Grid}
+use Rattle.grid.specs.declared.Row.{Row}
+use Rattle.grid.specs.Grid.{cells, closing, angleCount}
+use Rattle.grid.specs.Map.{sheetIndex}
+use Rattle.ledger.specs.declared.Ledger.{Ledger}
+use Rattle.job_world.specs.declared.JobState.{JobState}
+use Rattle.job_world.proofs.Fronts.{held-within, held-beyond}
+use Rattle.job_world.specs.World.{world, begun, jobColumns, jobRows, jobCells, jobAngles, sizeTaken, emptyMap, emptied, withMap, withCount, withCosine, withAngle}
+use Rattle.job_world.specs.State.{jobMap, worldOf, stateOf}
+
+module _ {A : Type 0} where
+  take-replicate : (k n : ℕ) (a : A) → k ≤ n → take k (replicate n a) ≡ replicate k a
+  take-replicate zero n a h = refl
+  take-replicate (suc k) zero a h = absurd (omega arith)
+  take-replicate (suc k) (suc n) a h = ap (λ (l : List A). a ∷ l) (take-replicate k n a (omega arith))
+
+  -- a place beyond the front is beyond the front of the changed list
+  take-set : (n : ℕ) (l : List A) (i : ℕ) (a : A) → take n (set l i a) ≡ set (take n l) i a
+  take-set zero l i a = refl
+  take-set (suc n) [] i a = refl
+  take-set (suc n) (x ∷ l) zero a = refl
+  take-set (suc n) (x ∷ l) (suc i) a = ap (λ (t : List A). x ∷ t) (take-set n l i a)
+
+  set-min : (l : List A) (k i : ℕ) (a : A) → length l ≡ k → set l (min i k) a ≡ set l i a
+  set-min l k i a e =
+      cases (ltb i k) (λ t. let h : i < k = ltb-true i k t in ap (λ (j : ℕ). set l j a) (omega arith))
+      (λ t. let h : k ≤ i = ltb-false i k t in set-out l (min i k) a (omega arith) ∙ sym (set-out l i a (omega arith)))
+
+-- ---- a map with nothing set
+
+module _ (g : Grid) (taken : sizeTaken g ≡ true) where
+  width-taken : g .width ≤ jobColumns
+  unfolding sizeTaken
+  width-taken = leb-true (g .width) jobColumns (and-left (leb (g .width) jobColumns) (leb (g .height) jobRows) taken)
+
+  height-taken : g .height ≤ jobRows
+  unfolding sizeTaken
+  height-taken = leb-true (g .height) jobRows (and-right (leb (g .width) jobColumns) (leb (g .height) jobRows) taken)
+
+  cells-taken : cells g ≤ jobCells
+  unfolding cells
+  cells-taken = omega (arith, times-le (g .width) (g .height) jobColumns jobRows width-taken height-taken)
+
+  angles-taken : angleCount g ≤ jobAngles
+  unfolding closing
+  angles-taken =
+      let pairs : g .height * g .height ≤ jobRows * jobRows = omega (arith, times-le (g .height) (g .height) jobRows jobRows height-taken height-taken) in
+      let offsets : g .width / 2 + 1 ≤ jobColumns / 2 + 1 = omega (arith, width-taken) in
+      omega (arith, times-le (g .height * g .height) (g .width / 2 + 1) (jobRows * jobRows) (jobColumns / 2 + 1) pairs offsets)
+
+  pub grid-begun : (l : Ledger) (counts : List ℕ) (angles cosines : List Float) (next : Ledger) → counts ≡ replicate jobCells 0 → angles ≡ replicate jobAngles (whole 0)
+      → cosines ≡ replicate jobRows (whole 1) → next ≡ emptied l
+      → stateOf (record { begun = true; grid = g; counts = counts; angles = angles; cosines = cosines; ledger = next })
+      ≡ begun (world (emptyMap g) (emptied l))
+  unfolding stateOf worldOf jobMap emptyMap
+  grid-begun l counts angles cosines next p q r s =
+      rw (
+        p,
+        q,
+        r,
+        s,
+        take-replicate {A = ℕ} (cells g) jobCells 0 cells-taken,
+        take-replicate (angleCount g) jobAngles (whole 0) angles-taken,
+        take-replicate (g .height) jobRows (whole 1) height-taken,
+      )
+
+-- ---- a change of one place
+
+module _ (s : JobState) (l : Ledger) (kept : l ≡ emptied (s .ledger)) where
+  pub count-changed : (x : Cell) (n : ℕ) (counts : List ℕ) → counts ≡ set (s .counts) (x .row .0 * s .grid .width + x .col .0) n
+      → stateOf (record { begun = true; grid = s .grid; counts = counts; angles = s .angles; cosines = s .cosines; ledger = l })
+      ≡ begun (withMap (worldOf s) (withCount (jobMap s) x n))
+  unfolding stateOf worldOf jobMap withMap withCount
+  count-changed x n counts e = rw (e, kept, take-set (cells (s .grid)) (s .counts) (x .row .0 * s .grid .width + x .col .0) n)
+
+  pub cosine-changed : (row : Row) (x : Float) (cosines : List Float) → cosines ≡ set (s .cosines) (row .0) x
+      → stateOf (record { begun = true; grid = s .grid; counts = s .counts; angles = s .angles; cosines = cosines; ledger = l })
+      ≡ begun (withMap (worldOf s) (withCosine (jobMap s) row x))
+  unfolding stateOf worldOf jobMap withMap withCosine
+  cosine-changed row x cosines e = rw (e, kept, take-set (s .grid .height) (s .cosines) (row .0) x)
+
+  pub angle-changed : (centre row : Row) (offset : ℕ) (x : Float) (angles : List Float) → length (s .angles) ≡ jobAngles
+      → angles ≡ set (s .angles) (min (sheetIndex (s .grid) centre row offset) jobAngles) x
+      → stateOf (record { begun = true; grid = s .grid; counts = s .counts; angles = angles; cosines = s .cosines; ledger = l })
+      ≡ begun (withMap (worldOf s) (withAngle (jobMap s) centre row offset x))
+  unfolding stateOf worldOf jobMap withMap withAngle
+  angle-changed centre row offset x angles sized e =
+      let i : ℕ = sheetIndex (s .grid) centre row offset in
+      let f : angles ≡ set (s .angles) i x = e ∙ set-min (s .angles) jobAngles i x sized in
+      rw (f, kept, take-set (angleCount (s .grid)) (s .angles) i x)
+
+-- ---- the place of an angle, at most jobAngles
+
+beyond : (p q k : ℕ) → jobAngles ≤ p → jobAngles ≡ min (p * (q + 1) + k) jobAngles
+beyond p q k h = omega (arith, times-le 1 (q + 1) 1 (q + 1) (omega arith) (omega arith), times-le jobAngles 1 p (q + 1) h (omega arith))
+
+module _ (g : Grid) (centre row : Row) (offset : ℕ) where
+  pub pair-beyond : jobAngles ≤ centre .0 * g .height + row .0 → jobAngles ≡ min (sheetIndex g centre row offset) jobAngles
+  unfolding sheetIndex
+  pair-beyond h = beyond (centre .0 * g .height + row .0) (closing g) offset h
+
+  module _ (q : ℕ) (e : q ≡ closing g) where
+    unfoldable place : ℕ
+    place = (centre .0 * g .height + row .0) * (q + 1) + offset
+
+    is-place : place ≡ sheetIndex g centre row offset
+    unfolding sheetIndex place
+    is-place = rw e
+
+    pub angle-within : (centre .0 * g .height + row .0) * (q + 1) + offset < jobAngles
+        → (centre .0 * g .height + row .0) * (q + 1) + offset ≡ min (sheetIndex g centre row offset) jobAngles
+    unfolding place
+    angle-within h = held-within place (sheetIndex g centre row offset) jobAngles is-place h
+
+    pub angle-beyond : jobAngles ≤ (centre .0 * g .height + row .0) * (q + 1) + offset → jobAngles ≡ min (sheetIndex g centre row offset) jobAngles
+    unfolding place
+    angle-beyond h = held-beyond place (sheetIndex g centre row offset) jobAngles is-place h

@@ -1,0 +1,45 @@
+-- What a level and its chunks ask: a map that has passed its questions, counts that stay small, and room for the children.
+use Prim.Native.Nat.{ℕ, _+_, _≤_, _^_}
+use mathlib.Core.Path.{_≡_}
+use mathlib.Core.Bool.{true}
+use mathlib.Core.List.{List}
+use lib.Ieee.{Float}
+use lib.ListN.{length}
+use Rattle.lists.proofs.Elements.{AllOf, total}
+use Rattle.grid.specs.declared.Grid.{Grid}
+use Rattle.grid.specs.Map.{globeOf}
+use Rattle.grid.specs.Questions.{sizesInRange, sheetComplete, sheetInOrder}
+use Rattle.sums.specs.Requires.{Summed}
+use Rattle.blocks.specs.declared.Block.{Block}
+use Rattle.blocks.specs.Block.{area, Rectangle}
+use Rattle.blocks.specs.Requires.{Small}
+use Rattle.levels.specs.declared.ChunkWork.{ChunkWork}
+use Rattle.levels.specs.State.{weight}
+
+-- the cells of the largest grid that question 1 lets pass: 180 columns, 90 rows
+abbrev pub mostCells : ℕ
+mostCells = 16200
+
+-- questions 1, 5 and 6 passed, and the sums filled
+pub record Ready (g : Grid) (angles cosines : List Float) (sums : List ℕ) : Type 0 where
+  pub sizes : sizesInRange g ≡ true
+  pub complete : sheetComplete (globeOf g angles cosines) ≡ true
+  pub order : sheetInOrder (globeOf g angles cosines) ≡ true
+  pub table : Summed g sums
+
+-- a block whose cells and kernels can be counted
+pub record CanCount (w : ChunkWork) (b : Block) : Type 0 where
+  pub light : weight (w .tally) ≤ 2 ^ 30
+  pub small : Small b
+  pub narrow : area b ≤ 2 ^ 20
+
+-- blocks on the grid, at most as many cells as it has, and room for their children from place live on
+pub record CanSweep (g : Grid) (bs : List Block) (following : List ℕ) (live : ℕ) : Type 0 where
+  pub rectangles : AllOf (Rectangle g) bs
+  pub narrow : total area bs ≤ mostCells
+  pub room : live + total area bs ≤ length following
+
+-- the words of a chunk are in the buffer
+pub record ChunkWords (current : List ℕ) (start end : ℕ) : Type 0 where
+  pub order : start ≤ end
+  pub words : end ≤ length current

@@ -1,0 +1,5 @@
+pub mod Columns
+pub mod General
+pub mod Laws
+pub mod Bands
+pub mod Tables

@@ -1,0 +1,111 @@
+-- `sums::band_span`: the full turn by one strip; less in one piece, or in two where the seam lies in the west or in the east.
+use mathlib.Core.Path.{sym, _∙_}
+use Prim.Native.Nat.{_/_, _≤_, _<_}
+use native.Mathlib.Omega.{arith}
+use denote.Ref.{now}
+use borrow.Author.Tests.{leb-true, leb-false}
+use Rattle.grid.specs.Grid.{closing}
+use Rattle.grid.specs.Map.{Map}
+use Rattle.sums.specs.State.{tableMap}
+use Rattle.sums.proofs.Bands.{around-turn, around-inland, around-west, around-east}
+use borrow.Author.Needs.{needs}
+use Rattle.sums.proofs.band_span.Statement.{statement}
+use Rattle.sums.proofs.band_span.Tie as tie
+
+abbrev M : tie.Start → Map
+M s = tableMap (s .args .grid) (now (s .args .sums))
+
+-- the decision
+turn : (c : tie.Then1) → let a = c .before .before .before .before .args in a .grid .width / 2 ≤ a .half
+unfolding closing
+turn c = leb-true _ _ (sym (c .before .full-turn .ensures) ∙ c .if1 .taken)
+
+short : (c : tie.Else1) → let a = c .before .before .before .before .args in a .half < a .grid .width / 2
+unfolding closing
+short c = leb-false _ _ (sym (c .before .full-turn .ensures) ∙ c .if1 .left)
+
+add-end : tie.Need-add-end
+add-end c = search needs
+
+full-turn-requires : tie.Need-full-turn-requires
+full-turn-requires c κs = search needs
+
+strip-requires : tie.Need-strip-requires
+strip-requires c κs = search needs
+
+returns : tie.Need-returns
+returns c =
+    let s = c .before .before .before .before .before in
+    let a = s .args in
+    rw (c .strip .ensures) (sym (around-turn (M s) (a .band) (a .centre) (a .half) (s .pre .1 .ordered) (s .pre .1 .south) (turn (c .before))))
+
+add-end-2 : tie.Need-add-end-2
+add-end-2 c = let less = short (c .before) in omega arith
+
+add-end-3 : tie.Need-add-end-3
+add-end-3 c = let less = short (c .before) in omega arith
+
+add-across : tie.Need-add-across
+add-across c = search needs
+
+sub-across : tie.Need-sub-across
+sub-across c = let less = short (c .before .before .before .before) in omega arith
+
+across-requires : tie.Need-across-requires
+across-requires c κs = let less = short (c .before .before .before .before) in search needs
+
+returns-2 : tie.Need-returns-2
+returns-2 c =
+    let less = c .before .before .before .before .before in
+    let s = less .before .before .before .before in
+    let a = s .args in
+    let on = s .pre .1 in
+    rw (c .across .ensures)
+    (sym (around-west (M s) (a .band) (a .centre) (a .half) (on .ordered) (on .south) (on .col) (short less) (c .before .before .if2 .taken)))
+
+sub-across-2 : tie.Need-sub-across-2
+sub-across-2 c = search needs
+
+across-requires-2 : tie.Need-across-requires-2
+across-requires-2 c κs = search needs
+
+returns-3 : tie.Need-returns-3
+returns-3 c =
+    let less = c .before .before .before .before .before .before in
+    let s = less .before .before .before .before in
+    let a = s .args in
+    let on = s .pre .1 in
+    rw (c .across2 .ensures)
+    (sym (around-east (M s) (a .band) (a .centre) (a .half) (on .ordered) (on .south) (on .col) (short less) (c .before .before .before .if2 .left) (c .before .if3 .taken)))
+
+inland-requires : tie.Need-inland-requires
+inland-requires c κs = search needs
+
+returns-4 : tie.Need-returns-4
+returns-4 c =
+    let less = c .before .before .before .before .before .before in
+    let s = less .before .before .before .before in
+    let a = s .args in
+    let on = s .pre .1 in
+    rw (c .inland .ensures)
+    (sym (around-inland (M s) (a .band) (a .centre) (a .half) (on .ordered) (on .south) (on .col) (short less) (c .before .before .before .if2 .left) (omega (arith, c .before .if3 .left))))
+
+pub band-span-spec : {M : Type 1} → statement M
+band-span-spec =
+    tie.close
+    (tie.spec
+    add-end
+    full-turn-requires
+    strip-requires
+    returns
+    add-end-2
+    add-end-3
+    add-across
+    sub-across
+    across-requires
+    returns-2
+    sub-across-2
+    across-requires-2
+    returns-3
+    inland-requires
+    returns-4)

@@ -1,0 +1,58 @@
+-- What filling the sums and reading them ask: sizes and counts that a call has tested, room in what is lent, and places on the grid.
+use Prim.Native.Nat.{ℕ, _+_, _*_, _≤_, _<_, _^_}
+use mathlib.Core.Path.{_≡_}
+use mathlib.Core.List.{List}
+use lib.ListN.{length}
+use Rattle.lists.specs.Front.{over}
+use Rattle.grid.specs.declared.Col.{Col}
+use Rattle.grid.specs.declared.Grid.{Grid}
+use Rattle.grid.specs.Grid.{mostColumns, mostRows}
+use Rattle.sums.specs.declared.RowBand.{RowBand}
+use Rattle.sums.specs.declared.ColSpan.{ColSpan}
+use Rattle.sums.specs.Sums.{sumsWords, sumsWord, filledSums, total}
+use Rattle.sums.specs.State.{countsMap, wordsThrough, tableMap}
+
+-- ---- filling
+
+-- what fill_sums is told: questions 1, 4 and 7
+pub record Fillable (g : Grid) (counts sums : List ℕ) : Type 0 where
+  pub columns : g .width ≤ mostColumns
+  pub rows : g .height ≤ mostRows
+  pub complete : length counts ≡ g .width * g .height
+  pub room : sumsWords g ≤ length sums
+
+-- the same when the words of rows 0 to row are there and those of row + 1 are next
+pub record RowReady (g : Grid) (row : ℕ) (counts sums : List ℕ) : Type 0 where
+  pub columns : g .width ≤ mostColumns
+  pub rows : row < mostRows
+  pub complete : row * g .width + g .width ≤ length counts
+  pub room : wordsThrough g row + (g .width + 1) ≤ length sums
+  pub above : sums ≡ over (sumsWord (countsMap g counts)) (wordsThrough g row) sums
+
+-- ---- reading
+
+-- the sums start with the prefix sums of the table's map, whose people a binary64 counts exactly
+pub record Summed (g : Grid) (sums : List ℕ) : Type 0 where
+  pub columns : g .width ≤ mostColumns
+  pub rows : g .height ≤ mostRows
+  pub room : sumsWords g ≤ length sums
+  pub words : sums ≡ filledSums (tableMap g sums) sums
+  pub exact : total (tableMap g sums) < 2 ^ 53
+
+-- a corner of the grid's cells, the last ones included
+pub record AtCorner (g : Grid) (r c : ℕ) : Type 0 where
+  pub row : r ≤ g .height
+  pub col : c ≤ g .width
+
+-- a band of rows in order and a span of columns, all on the grid
+pub record OnTable (g : Grid) (band : RowBand) (span : ColSpan) : Type 0 where
+  pub ordered : band .north .0 ≤ band .south .0
+  pub south : band .south .0 < g .height
+  pub west : span .west .0 < g .width
+  pub east : span .east .0 < g .width
+
+-- such a band and a centre column
+pub record InTable (g : Grid) (band : RowBand) (c : Col) : Type 0 where
+  pub ordered : band .north .0 ≤ band .south .0
+  pub south : band .south .0 < g .height
+  pub col : c .0 < g .width

@@ -1,0 +1,196 @@
+// The table: prefix sums of the counts in a lent buffer, and the people of bands of rows and spans of columns by four words or six.
+ghost use mathlib.Core.Path.{_≡_};
+ghost use Prim.Native.Nat.{_+_, _*_, _≤_};
+ghost use lib.Dec.{leb};
+ghost use lib.ListN.{length};
+ghost use Rattle.lists.specs.Front.{over};
+ghost use Rattle.grid.specs.Grid.{closing};
+ghost use Rattle.sums.specs.Sums.{corner as cornerOf, sumsWord, sumsFit, filledSums, total as totalOf};
+ghost use Rattle.sums.specs.Sums.{rectangle, bandPopulation, bandSpan};
+ghost use Rattle.sums.specs.State.{countsMap, wordsThrough, tableMap};
+ghost use Rattle.sums.specs.Requires.{Fillable, RowReady, Summed, AtCorner, OnTable, InTable};
+use grid::Col;
+use grid::Grid;
+use grid::Row;
+
+// The rows from north to south, both included.
+pub struct RowBand {
+    pub north: Row,
+    pub south: Row,
+}
+
+// The rows from north to before end, by which corners are read.
+struct Rows {
+    north: u32,
+    end: u32,
+}
+
+// The columns from west eastward to east, both included; across the seam where west is the greater.
+pub struct ColSpan {
+    pub west: Col,
+    pub east: Col,
+}
+
+// Question 7, for the sums buffer. Rows and the last row apart, so that no product wraps.
+pub fn sums_fit(grid: Grid, sums: &[u64]) -> bool
+    ensures { λ r. ⌜ r ≡ sumsFit grid (now (sums .entry)) ⌝ }
+{
+    let stride = grid.width as usize + 1;
+    let rows = grid.height as usize * stride;
+    if rows <= sums.len() {
+        stride <= sums.len() - rows
+    } else {
+        false
+    }
+}
+
+fn wide(x: u32) -> u64
+    ensures { λ r. ⌜ r ≡ x ⌝ }
+{
+    x as u64
+}
+
+// The words of row 0: no cell lies above them.
+fn zero_row(sums: &mut [u64], stride: usize)
+    requires { ⌜ stride ≤ length (now sums) ⌝ }
+    ensures { λ _. ⌜ now (sums .exit) ≡ over (λ i. 0) stride (now (sums .entry)) ⌝ }
+{
+    let mut k = 0;
+    while k < stride {
+        sums[k] = 0;
+        k += 1;
+    }
+}
+
+// The words of row `row + 1`: each is the word above it and the row's counts so far.
+fn fill_row(grid: Grid, row: usize, counts: &[u32], sums: &mut [u64])
+    requires { ⌜ RowReady grid row (now counts) (now sums) ⌝ }
+    ensures { λ _. ⌜ now (sums .exit)
+        ≡ over (sumsWord (countsMap grid (now (counts .entry)))) (wordsThrough grid row + (grid .width + 1)) (now (sums .entry)) ⌝ }
+{
+    let width = grid.width as usize;
+    let above = row * (width + 1);
+    let base = above + (width + 1);
+    let from = row * width;
+    sums[base] = 0;
+    let mut run: u64 = 0;
+    let mut col: usize = 0;
+    while col < width {
+        run += wide(counts[from + col]);
+        sums[base + 1 + col] = sums[above + 1 + col] + run;
+        col += 1;
+    }
+}
+
+// The prefix sums of the counts at the front of `sums`, whose tail is kept.
+pub fn fill_sums(grid: Grid, counts: &[u32], sums: &mut [u64])
+    requires { ⌜ Fillable grid (now counts) (now sums) ⌝ }
+    ensures { λ _. ⌜ now (sums .exit) ≡ filledSums (countsMap grid (now (counts .entry))) (now (sums .entry)) ⌝ }
+{
+    let height = grid.height as usize;
+    zero_row(sums, grid.width as usize + 1);
+    let mut row: usize = 0;
+    while row < height {
+        fill_row(grid, row, counts, sums);
+        row += 1;
+    }
+}
+
+// The word of a corner: the people above a row and west of a column, either of which may be one past the last.
+pub fn corner(grid: Grid, sums: &[u64], row: u32, col: u32) -> u64
+    requires { ⌜ Summed grid (now sums) ⌝ }
+    requires { ⌜ AtCorner grid row col ⌝ }
+    ensures { λ r. ⌜ r ≡ cornerOf (tableMap grid (now (sums .entry))) row col ⌝ }
+{
+    let stride = grid.width as usize + 1;
+    sums[row as usize * stride + col as usize]
+}
+
+// The people of all cells: the last corner.
+pub fn total(grid: Grid, sums: &[u64]) -> u64
+    requires { ⌜ Summed grid (now sums) ⌝ }
+    ensures { λ r. ⌜ r ≡ totalOf (tableMap grid (now (sums .entry))) ⌝ }
+{
+    corner(grid, sums, grid.height, grid.width)
+}
+
+// The people of some rows west of a column: two words.
+fn strip(grid: Grid, sums: &[u64], rows: Rows, col: u32) -> u64
+    requires { ⌜ Summed grid (now sums) ⌝ }
+    requires { ⌜ (rows .north ≤ rows .end) × (rows .end ≤ grid .height) × (col ≤ grid .width) ⌝ }
+    ensures { λ r. ⌜ r ≡ rectangle (tableMap grid (now (sums .entry))) rows 0 col ⌝ }
+{
+    let below = corner(grid, sums, rows.end, col);
+    let above = corner(grid, sums, rows.north, col);
+    below - above
+}
+
+// The people of some rows from a column to before another: four words.
+fn inland(grid: Grid, sums: &[u64], rows: Rows, west: u32, end: u32) -> u64
+    requires { ⌜ Summed grid (now sums) ⌝ }
+    requires { ⌜ (rows .north ≤ rows .end) × (rows .end ≤ grid .height) × (west ≤ end) × (end ≤ grid .width) ⌝ }
+    ensures { λ r. ⌜ r ≡ rectangle (tableMap grid (now (sums .entry))) rows west end ⌝ }
+{
+    strip(grid, sums, rows, end) - strip(grid, sums, rows, west)
+}
+
+// The same where the seam lies between: six words. A row's words begin at column 0 and do not go round, so such a span is two pieces, the
+// columns from west to the last and those from the first to before end, which have no column in common.
+fn across(grid: Grid, sums: &[u64], rows: Rows, west: u32, end: u32) -> u64
+    requires { ⌜ Summed grid (now sums) ⌝ }
+    requires { ⌜ (rows .north ≤ rows .end) × (rows .end ≤ grid .height) × (west ≤ grid .width) × (end ≤ grid .width) ⌝ }
+    ensures { λ r. let m = tableMap grid (now (sums .entry)) in ⌜ r ≡ rectangle m rows west (grid .width) + rectangle m rows 0 end ⌝ }
+{
+    inland(grid, sums, rows, west, grid.width) + strip(grid, sums, rows, end)
+}
+
+// The people of a band of rows and a span of columns.
+pub fn population(grid: Grid, sums: &[u64], band: RowBand, span: ColSpan) -> u64
+    requires { ⌜ Summed grid (now sums) ⌝ }
+    requires { ⌜ OnTable grid band span ⌝ }
+    ensures { λ r. ⌜ r ≡ bandPopulation (tableMap grid (now (sums .entry))) band span ⌝ }
+{
+    let rows = Rows {
+        north: band.north.0,
+        end: band.south.0 + 1,
+    };
+    let west = span.west.0;
+    let end = span.east.0 + 1;
+    if west < end {
+        return inland(grid, sums, rows, west, end);
+    }
+    across(grid, sums, rows, west, end)
+}
+
+// Half the width and more: every column.
+fn full_turn(grid: Grid, half: u32) -> bool
+    ensures { λ r. ⌜ r ≡ leb (closing grid) half ⌝ }
+{
+    grid.width / 2 <= half
+}
+
+// The people of a band's columns at most `half` from the centre column around the ring. The full turn is counted once.
+// Each case reads its own words: ends chosen first would be tested for the seam again.
+pub fn band_span(grid: Grid, sums: &[u64], band: RowBand, centre: Col, half: u32) -> u64
+    requires { ⌜ Summed grid (now sums) ⌝ }
+    requires { ⌜ InTable grid band centre ⌝ }
+    ensures { λ r. ⌜ r ≡ bandSpan (tableMap grid (now (sums .entry))) band centre half ⌝ }
+{
+    let rows = Rows {
+        north: band.north.0,
+        end: band.south.0 + 1,
+    };
+    let width = grid.width;
+    if full_turn(grid, half) {
+        return strip(grid, sums, rows, width);
+    }
+    let end = centre.0 + half + 1;
+    if centre.0 < half {
+        return across(grid, sums, rows, centre.0 + width - half, end);
+    }
+    let west = centre.0 - half;
+    if width < end {
+        return across(grid, sums, rows, west, end - width);
+    }
+    inland(grid, sums, rows, west, end)
+}

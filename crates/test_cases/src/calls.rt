@@ -1,0 +1,140 @@
+// The C boundary's calls on a map, with so much of each array lent as it says, or all where there is less. They return 0 or
+// the number of a refusal.
+use crate::map::Map;
+use crate::numbers;
+ghost use mathlib.Core.Path.{_≡_};
+ghost use Rattle.search.specs.Call.{buffers};
+ghost use Rattle.jadurphen.specs.Calls.{circleReturned};
+ghost use Rattle.test_cases.specs.Calls.{lentOf, boardLeft, circlePlayed, searchPlayed, smallestPlayed};
+
+// A single circle; asked are kilometre, row and column.
+pub fn circle(
+    map: Map,
+    counts: &[u32],
+    angles: &[f64],
+    cosines: &[f64],
+    asked: &[u64],
+    sums: &mut [u64],
+    population: &mut u64,
+) -> u32
+    ensures { λ r. ⌜ circleReturned r (now (population .exit)) (now (sums .exit))
+        ≡ circlePlayed map (lentOf map (now (counts .entry)) (now (angles .entry)) (now (cosines .entry)))
+        (now (asked .entry)) (now (sums .entry)) (now (population .entry)) ⌝ }
+{
+    let grid = map.grid;
+    let n = numbers::least(map.sums, sums.len());
+    jadurphen::jadurphen_circle(
+        grid.width,
+        grid.height,
+        grid.origin_lat,
+        grid.lon_step,
+        grid.lat_step,
+        numbers::first_shorts(counts, map.counts),
+        numbers::first_floats(angles, map.angles),
+        numbers::first_floats(cosines, map.cosines),
+        &mut sums[..n],
+        numbers::short_at(asked, 0),
+        numbers::short_at(asked, 1),
+        numbers::short_at(asked, 2),
+        population,
+    )
+}
+
+// A search.
+pub fn search(
+    map: Map,
+    counts: &[u32],
+    angles: &[f64],
+    cosines: &[f64],
+    km: u32,
+    automatic: bool,
+    spacing: u32,
+    sums: &mut [u64],
+    current: &mut [u64],
+    following: &mut [u64],
+    answer: &mut [u64; 10],
+    tolerance: &mut f64,
+) -> u32
+    ensures { λ r. ⌜ record {
+      number = r;
+      words = now (answer .exit);
+      tolerance = now (tolerance .exit);
+      lent = boardLeft map r (now (sums .exit)) (now (current .exit)) (now (following .exit));
+    } ≡ searchPlayed map (lentOf map (now (counts .entry)) (now (angles .entry)) (now (cosines .entry))) automatic spacing km
+        (buffers (now (sums .entry)) (now (current .entry)) (now (following .entry)))
+        (now (answer .entry)) (now (tolerance .entry)) ⌝ }
+{
+    let grid = map.grid;
+    let n = numbers::least(map.sums, sums.len());
+    let of_current = numbers::least(map.current, current.len());
+    let of_following = numbers::least(map.following, following.len());
+    jadurphen::jadurphen_search(
+        grid.width,
+        grid.height,
+        grid.origin_lat,
+        grid.lon_step,
+        grid.lat_step,
+        numbers::first_shorts(counts, map.counts),
+        numbers::first_floats(angles, map.angles),
+        numbers::first_floats(cosines, map.cosines),
+        km,
+        automatic,
+        spacing,
+        &mut sums[..n],
+        &mut current[..of_current],
+        &mut following[..of_following],
+        answer,
+        tolerance,
+    )
+}
+
+// A smallest radius.
+pub fn smallest(
+    map: Map,
+    counts: &[u32],
+    angles: &[f64],
+    cosines: &[f64],
+    share: f64,
+    automatic: bool,
+    spacing: u32,
+    ledger: &mut [u64],
+    sums: &mut [u64],
+    current: &mut [u64],
+    following: &mut [u64],
+    answer: &mut [u64; 19],
+    floats: &mut [f64; 6],
+) -> u32
+    ensures { λ r. ⌜ record {
+      number = r;
+      ledger = now (ledger .exit);
+      words = now (answer .exit);
+      floats = now (floats .exit);
+      lent = boardLeft map r (now (sums .exit)) (now (current .exit)) (now (following .exit));
+    } ≡ smallestPlayed map (lentOf map (now (counts .entry)) (now (angles .entry)) (now (cosines .entry))) automatic spacing share
+        (now (ledger .entry)) (buffers (now (sums .entry)) (now (current .entry)) (now (following .entry)))
+        (now (answer .entry)) (now (floats .entry)) ⌝ }
+{
+    let grid = map.grid;
+    let n = numbers::least(map.sums, sums.len());
+    let of_current = numbers::least(map.current, current.len());
+    let of_following = numbers::least(map.following, following.len());
+    jadurphen::jadurphen_smallest(
+        grid.width,
+        grid.height,
+        grid.origin_lat,
+        grid.lon_step,
+        grid.lat_step,
+        numbers::first_shorts(counts, map.counts),
+        numbers::first_floats(angles, map.angles),
+        numbers::first_floats(cosines, map.cosines),
+        share,
+        automatic,
+        spacing,
+        ledger,
+        &mut sums[..n],
+        &mut current[..of_current],
+        &mut following[..of_following],
+        answer,
+        floats,
+    )
+}
