@@ -73,7 +73,7 @@ halves low high =
 unfoldable pub split : Block → List Block
 split b = cond (isCell b) [] (cross (halves (b .north .0) (b .south .0)) (halves (b .first .0) (b .last .0)))
 
--- a rectangle on the grid: the cells of the rows north to south and the columns first to last, not across the seam
+-- a rectangle on the grid: all cells from row north to row south and from column first to column last, so that it does not cross the seam
 pub record Rectangle (g : Grid) (b : Block) : Type 0 where
   pub rows : b .north .0 ≤ b .south .0
   pub south : b .south .0 < g .height

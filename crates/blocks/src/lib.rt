@@ -17,8 +17,8 @@ pub use pieces::tile;
 pub use word::from_word;
 pub use word::to_word;
 
-// The cells of the rows north to south and the columns first to last. A block never goes across the seam, though the circles around its
-// cells do: so its columns are the numbers from first to last, there is one block only for the same cells, and the last tile of a row
+// All cells from row north to row south and from column first to column last. A block never goes across the seam, though the circles around
+// its cells do: so its columns are the numbers from first to last, there is one block only for the same cells, and the last tile of a row
 // is short instead.
 pub struct Block {
     pub north: Row,

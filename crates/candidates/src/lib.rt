@@ -10,7 +10,7 @@ use grid::Row;
 ghost use mathlib.Core.Path.{_≡_};
 ghost use Rattle.candidates.specs.Candidate.{candidateOf};
 
-// A centre and the population of its circle.
+// A cell with the number of people in its circle.
 pub struct Candidate {
     pub row: Row,
     pub col: Col,

@@ -127,25 +127,31 @@ module _ {S F : Type 0} (probed : S → ℕ → S) (latest : S → F) (start : S
     still low km kms (inl z) = inl z
     still low km kms (inr a) = inr (there a)
 
+    -- a radius that reached is the bracket's upper end, whatever the probes before it were
+    reached-at : (kms : List ℕ) (km low : ℕ) → low ≤ km → km ≤ cap → (low ≡ 0) ⊎ AnyOf (ShortBelow reaches low) (findings kms)
+        → AllOf (Side reaches low km) (findings kms) → AllOf (UpTo cap) kms → Distinct (km ∷ kms)
+        → reaches (latest (after (km ∷ kms))) ≡ true → Bracket (km ∷ kms) low km (latest (after (km ∷ kms)))
+    unfolding findings
+    reached-at kms km low l h below sides within distinct e =
+        let at : km ≤ km = omega arith in
+        record {
+          order = l;
+          top = h;
+          reached = e;
+          held = here (record { km-is = refl; found-is = refl });
+          below = still low km kms below;
+          sides = also (over at e) sides;
+          within = also h within;
+          distinct = distinct;
+        }
+
     module _ (kms : List ℕ) (km low high : ℕ) (f : F) (b : Bracket kms low high f) (l : low ≤ km) (h : km < high) where
       within-cap : km ≤ cap
       within-cap = omega (arith, b .top)
 
       -- a middle that reached, and one that fell short
       lower : reaches (latest (after (km ∷ kms))) ≡ true → Bracket (km ∷ kms) low km (latest (after (km ∷ kms)))
-      unfolding findings
-      lower e =
-          let at : km ≤ km = omega arith in
-          record {
-            order = l;
-            top = within-cap;
-            reached = e;
-            held = here (record { km-is = refl; found-is = refl });
-            below = still low km kms (b .below);
-            sides = also (over at e) (all-map closer (b .sides));
-            within = also within-cap (b .within);
-            distinct = new (fresh low high km kms l h (b .sides)) (b .distinct);
-          }
+      lower = reached-at kms km low l within-cap (b .below) (all-map closer (b .sides)) (b .within) (new (fresh low high km kms l h (b .sides)) (b .distinct))
         where
           closer : (x : Finding F) → Side reaches low high x → Side reaches low km x
           closer x (under k u) = under k u
@@ -224,19 +230,7 @@ module _ {S F : Type 0} (probed : S → ℕ → S) (latest : S → F) (start : S
 
       -- a radius that reached opens the bracket, and one that fell short goes on
       opened : reaches (latest (after (km ∷ kms))) ≡ true → Bracket (km ∷ kms) low km (latest (after (km ∷ kms)))
-      unfolding findings
-      opened e =
-          let at : km ≤ km = omega arith in
-          record {
-            order = l;
-            top = h;
-            reached = e;
-            held = here (record { km-is = refl; found-is = refl });
-            below = still low km kms (c .below);
-            sides = also (over at e) (all-map (λ x u. under (u .km-is) (u .fell)) (c .shorts));
-            within = also h (c .within);
-            distinct = once;
-          }
+      opened = reached-at kms km low l h (c .below) (all-map (λ x u. under (u .km-is) (u .fell)) (c .shorts)) (c .within) once
 
       climbed : reaches (latest (after (km ∷ kms))) ≡ false → Climbing (km ∷ kms) (km + 1)
       unfolding findings

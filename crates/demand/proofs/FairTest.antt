@@ -1,7 +1,7 @@
 -- A test of fairness that looks at a few radii and is good for all of them, since circles and wide circles only grow with the radius.
 -- `after` lists the radii, in whole kilometres, up to which some cell is not yet reached.
 use Prim.Native.Nat.{ℕ, suc, _^_, _≤_, _<_}
-use mathlib.Core.Logic.{_⊎_, inl, inr}
+use mathlib.Core.Logic.{inl, inr}
 use mathlib.Core.Bool.{Bool, true, false, not, _&&_, _||_}
 use mathlib.Core.List.{List, [], _∷_}
 use native.Mathlib.Omega.{arith}
@@ -10,7 +10,7 @@ use lib.Dec.{T, leb, ltb, eqb, le→leb, ltb→lt, eqb→eq}
 use lib.Ieee.{Float, lt, le}
 use lib.Ieee.Fits.{and-i, and-l, and-r}
 use Rattle.lists.specs.Counted.{allBelow}
-use Rattle.lists.proofs.Bools.{is-true, of-true}
+use Rattle.lists.proofs.Bools.{is-true, of-true, or-split}
 use Rattle.lists.proofs.All.{all-at}
 use Rattle.floats.specs.Binary.{whole}
 use Rattle.floats.proofs.Order.{le-trans}
@@ -81,10 +81,6 @@ given : (b c : Bool) → T b → T (whenever b c) → T c
 unfolding whenever
 given true c t u = u
 given false c t u = absurd t
-
-pub or-split : (a b : Bool) → T (a || b) → T a ⊎ T b
-or-split true b t = inl tt
-or-split false b t = inr t
 
 -- ---- one rectangle
 module _ (s : Globe) (b : Block) (S : T (le +0 (slackKm s b))) (km : ℕ) (h : 1 ≤ km) (l : km ≤ 2 ^ 53) where

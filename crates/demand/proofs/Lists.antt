@@ -10,7 +10,7 @@ use Rattle.lists.proofs.Bools.{is-true, of-true, or-none, or-assoc}
 use Rattle.grid.specs.Grid.{ceiling}
 use Rattle.grid.specs.Map.{Map}
 use Rattle.grid.specs.Answer.{Question, question, firstNo, Answer, answered, refused, decide, after}
-use Rattle.grid.proofs.Answers.{all-yes, after-map, decide-yes, decide-no}
+use Rattle.grid.proofs.Answers.{all-yes, after-map, decide-yes, decide-no, not-answered}
 use Rattle.bounds.specs.declared.Spacing.{Spacing}
 use Rattle.bounds.specs.Spacing.{spacingGiven}
 use Rattle.candidates.specs.declared.Candidate.{Candidate}
@@ -85,14 +85,11 @@ module _ (m : Map) (a : Accepted m) (l : Ledger) (c : Call) where
   refused-done s n e =
       let same = ledger-refused n e in
       record {
-        right = record { judged = judged s; kept = ledger-refused; right = λ x q. absurd (never x (sym e ∙ q)) };
+        right = record { judged = judged s; kept = ledger-refused; right = λ x q. absurd (not-answered n x (sym e ∙ q)) };
         ledger = rw same s;
         gained = rw (same, e) (omega arith);
         kept = λ km. rw (same, e) (or-none (there (get l km)));
       }
-    where
-      never : (x : Smallest) → refused n ≡ answered x → ⊥
-      never x z = let o : _≡_ {A = ℕ} 0 1 = cc in omega arith
 
   -- answered
   module _ (s : ListLedger m l) (free : placesFree l mostRadii ≡ true) (e : called m l c .answer ≡ answered (smallest m (c .spacing) (c .share) l .answer))
@@ -133,7 +130,7 @@ module _ (m : Map) (a : Accepted m) (l : Ledger) (c : Call) where
           let passed = all-yes (asked m l c) refl e .1 .1 in
           answered-done s (passed .1 .0) (judged s ∙ decide-yes _ _ e)
           (smallest-right m a (c .spacing) (c .share) l (s .best) (searched (c .spacing) (of-true _ (passed .0))))
-      by (suc k) e = refused-done s (suc k) (judged s ∙ decide-no _ k _ e ∙ ap refused e)
+      by (suc k) e = refused-done s (suc k) (judged s ∙ decide-no (suc k) _ _ (sym e) (λ z. omega (arith, z)))
 
 -- ---- the list
 

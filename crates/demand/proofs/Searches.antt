@@ -1,14 +1,13 @@
 -- The search call of an accepted map: who is answered, and what an answer is.
-use Prim.Native.Nat.{ℕ, zero, suc}
+use Prim.Native.Nat.{ℕ}
 use mathlib.Core.Path.{_≡_, refl, sym, ap, _∙_}
-use native.Mathlib.Omega.{arith}
 use lib.Dec.{T}
 use borrow.Author.Tests.{le-leb}
 use Rattle.lists.proofs.Bools.{is-true, of-true}
 use Rattle.grid.specs.Grid.{ceiling}
 use Rattle.grid.specs.Map.{Map}
-use Rattle.grid.specs.Answer.{firstNo, answered, refused, decide}
-use Rattle.grid.proofs.Answers.{all-yes, yes-all, after-map, decide-yes, decide-no}
+use Rattle.grid.specs.Answer.{firstNo, answered, decide}
+use Rattle.grid.proofs.Answers.{all-yes, yes-all, after-map, decide-yes, decided-yes}
 use Rattle.kernel.specs.Call.{radiusInRange}
 use Rattle.bounds.specs.declared.Spacing.{Spacing}
 use Rattle.bounds.specs.Spacing.{spacingGiven}
@@ -36,16 +35,6 @@ module _ (m : Map) (a : Accepted m) where
   pub search-answered : (km : ℕ) (spacing : Spacing) (lent : Buffers) (f : MostPopulous) → searchCall m spacing km lent .answer ≡ answered f
       → T (spacingGiven spacing) × (search m spacing km ≡ f)
   search-answered km spacing lent f e =
-      by (firstNo (searchOwn (m .globe .grid) spacing km lent)) refl
-    where
-      never : (n : ℕ) → refused n ≡ answered f → ⊥
-      never n z = let o : _≡_ {A = ℕ} 0 1 = cc in omega arith
-
-      by : (n : ℕ)
-          → firstNo (searchOwn (m .globe .grid) spacing km lent) ≡ n
-          → T (spacingGiven spacing) × (search m spacing km ≡ f)
-      by zero z =
-          let yes : answered (search m spacing km) ≡ answered f = sym (own-decide km spacing lent ∙ decide-yes _ (search m spacing km) z) ∙ e in
-          let is : search m spacing km ≡ f = cc in
-          (of-true _ (all-yes (searchOwn (m .globe .grid) spacing km lent) refl z .1 .1 .0), is)
-      by (suc k) z = absurd (never _ (sym (own-decide km spacing lent ∙ decide-no _ k (search m spacing km) z) ∙ e))
+      let own = searchOwn (m .globe .grid) spacing km lent in
+      let was = decided-yes (firstNo own) (search m spacing km) f (sym e ∙ own-decide km spacing lent) in
+      (of-true _ (all-yes own refl (was .0) .1 .1 .0), was .1)

@@ -9,6 +9,7 @@ use lib.Dec.{T, ltb, eqb, ltb→lt, eqb→eq, lit≤, lit<}
 use lib.ListN.{getD}
 use lib.Ieee.Fits.{and-l, and-r}
 use Rattle.lists.specs.Counted.{allBelow}
+use Rattle.lists.proofs.Bools.{or-split}
 use Rattle.floats.specs.Binary.{whole}
 use Rattle.grid.specs.declared.Cell.{Cell}
 use Rattle.grid.specs.Grid.{cell, onGrid}
@@ -18,7 +19,7 @@ use Rattle.search.specs.Ring.{ringGlobe}
 use Rattle.search.proofs.Ring.{ring-open}
 use Rattle.demand.specs.Demand3.{Accepted, Fair, Best}
 use Rattle.demand.specs.Unfair.{thinRing, Missed}
-use Rattle.demand.proofs.FairTest.{every-at, or-split}
+use Rattle.demand.proofs.FairTest.{every-at}
 
 thin-accepted : Accepted thinRing
 unfolding ring-open thinRing

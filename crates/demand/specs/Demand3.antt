@@ -55,7 +55,7 @@ FairAt s km =
 abbrev pub Fair : Globe → Type 0
 Fair s = (km : ℕ) → 1 ≤ km → km < ceiling (s .grid) → FairAt s km
 
--- the best circle at a radius: the fullest of all cells' circles there, ties going to the first row, then column
+-- the best circle at a radius: the one with most people; of several, the one whose centre is first by row, then column
 abbrev pub Best : Map → ℕ → Cell → Type 0
 Best m km c = BestOf (m .globe .grid) (population m (whole km)) c
 
@@ -84,7 +84,7 @@ SearchAnswers m =
 
 -- ---- a list of smallest-radius calls
 
--- a call's own share, spacing and lent buffers, of any length and holding anything
+-- what a call brings itself: spacing, share and lent buffers, whatever their lengths and words
 pub record Call : Type 0 where
   pub spacing : Spacing
   pub share : Float

@@ -9,6 +9,7 @@ use lib.Dec.{T, ltb, eqb, ltb→lt, eqb→eq}
 use lib.Ieee.{Float, nan, inf, fin, up, down, below, level, le}
 use borrow.Author.Tests.{ltb-false, eq-eqb}
 use lib.Ieee.Fits.{down-pos, and-l, and-r}
+use Rattle.lists.proofs.Bools.{or-split}
 
 -- what a number has above zero, and what below, in units of 1 / down e
 unfoldable pub plusOf : Bool → ℕ → ℕ
@@ -16,10 +17,6 @@ plusOf s a = cond s 0 a
 
 unfoldable pub minusOf : Bool → ℕ → ℕ
 minusOf s a = cond s a 0
-
-or-split : (a b : Bool) → T (a || b) → T a ⊎ T b
-or-split true b t = inl tt
-or-split false b t = inr t
 
 -- ±a ≤ ±b, over one denominator: what a has above and b below is at most what b has above and a below
 pub ordered : (s : Bool) (a : ℕ) (t : Bool) (b : ℕ) → T (below s a t b || level s a t b) → plusOf s a + minusOf t b ≤ plusOf t b + minusOf s a

@@ -147,6 +147,21 @@ module _ {A : Type 0} where
   unfolding decide
   decide-yes n a e = rw e
 
-  pub decide-no : (n k : ℕ) (a : A) → n ≡ suc k → decide n a ≡ refused n
+  pub decide-no : (n k : ℕ) (a : A) → n ≡ k → (n ≡ 0 → ⊥) → decide k a ≡ refused n
   unfolding decide
-  decide-no n k a e = rw e
+  decide-no zero k a e h = absurd (h refl)
+  decide-no (suc n) k a e h = rw (← e)
+
+  -- and what a decision that has left it was
+  pub not-answered : (n : ℕ) (a : A) → refused n ≡ answered a → ⊥
+  not-answered n a e = let o : _≡_ {A = ℕ} 0 1 = cc in omega arith
+
+  pub decided-yes : (n : ℕ) (a b : A) → answered b ≡ decide n a → (n ≡ 0) × (a ≡ b)
+  unfolding decide
+  decided-yes zero a b e = (refl, cc)
+  decided-yes (suc n) a b e = absurd (not-answered (suc n) b (sym e))
+
+  pub decided-no : (n k : ℕ) (a : A) → refused n ≡ decide k a → n ≡ 0 → ⊥
+  unfolding decide
+  decided-no n zero a e z = not-answered n a e
+  decided-no n (suc k) a e z = let is : n ≡ suc k = cc in omega (arith, is, z)

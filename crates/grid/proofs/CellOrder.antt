@@ -1,5 +1,5 @@
 -- Cells on the grid, and their order by row, then column.
-use Prim.Native.Nat.{_<_}
+use Prim.Native.Nat.{_≤_, _<_}
 use mathlib.Core.Path.{_≡_, refl}
 use mathlib.Core.Bool.{Bool, true, false, _&&_, _||_}
 use native.Mathlib.Decide.{decLt}
@@ -31,6 +31,9 @@ on-grid g x t = go (ltb (x .row .0) (g .height)) refl (ltb (x .col .0) (g .width
 pub of-on-grid : (g : Grid) (x : Cell) → On g x → T (onGrid g x)
 unfolding onGrid
 of-on-grid g x h = rw (lt-ltb (x .row .0) (g .height) (h .row), lt-ltb (x .col .0) (g .width) (h .col)) tt
+
+pub corner-on : (g : Grid) → 1 ≤ g .width → 1 ≤ g .height → T (onGrid g (cell 0 0))
+corner-on g w h = of-on-grid g (cell 0 0) (record { row = omega arith; col = omega arith })
 
 -- ---- before
 

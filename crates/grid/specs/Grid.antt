@@ -25,7 +25,7 @@ bodyRadius g = earth
 unfoldable pub ceiling : Grid → ℕ
 ceiling g = earthCeiling
 
--- the angle of a radius: the lesser of km / 6371.0088 and half a turn
+-- the angle of a radius: km / 6371.0088, but half a turn where that is larger
 unfoldable pub angleOf : Grid → Float → Float
 angleOf g km = lesser (km ⊘ bodyRadius g) π
 

@@ -62,7 +62,7 @@ module _ (s : Globe) where
   abbrev pub angle : ℕ → ℕ → ℕ → Float
   angle c r k = angleAt s (record { 0 = c }) (record { 0 = r }) k
 
-  -- every cosine above 0 and at most 1
+  -- 0 < cosine ≤ 1, of each row
   unfoldable pub cosineInRange : ℕ → Bool
   cosineInRange r = let x = cosineAt s (record { 0 = r }) in lt (whole 0) x && le x (whole 1)
 
@@ -76,18 +76,18 @@ module _ (s : Globe) where
   unfoldable pub anglesInRange : Bool
   anglesInRange = everyPair s (λ c r. allBelow (closing (s .grid) + 1) (angleInRange c r))
 
-  -- the angle of a row to itself at offset 0 equal to 0
+  -- at offset 0 each row is at angle 0 from itself
   unfoldable pub ownAngleZero : Bool
   ownAngleZero = everyRow s (λ c. eq (angle c c 0) (whole 0))
 
-  -- angles not falling as the offset grows
+  -- along a row no angle is below the one at the offset before
   unfoldable pub angleRises : ℕ → ℕ → ℕ → Bool
   angleRises c r k = le (angle c r k) (angle c r (k + 1))
 
   unfoldable pub anglesRise : Bool
   anglesRise = everyPair s (λ c r. allBelow (closing (s .grid)) (angleRises c r))
 
-  -- offset-0 angles not falling as the row moves away from the centre row: between a row and the next one south
+  -- at offset 0, of a row and the next one south: the one nearer to the centre row has no larger angle
   unfoldable pub rowRises : ℕ → ℕ → Bool
   rowRises c r = cond (ltb r c) (le (angle c (r + 1) 0) (angle c r 0)) (le (angle c r 0) (angle c (r + 1) 0))
 

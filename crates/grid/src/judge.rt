@@ -59,7 +59,7 @@ impl SheetJudge {
         }
     }
 
-    // From row 1 on an angle at offset 0 does not fall as the row moves away from the centre row.
+    // From row 1 on: of a row and the one before, at offset 0, the one nearer to the centre row has no larger angle.
     fn row_fits(self, angle: f64) -> bool
         ensures { λ r. ⌜ r ≡ rowFits self angle ⌝ }
     {

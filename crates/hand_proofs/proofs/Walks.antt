@@ -1,15 +1,23 @@
 -- Rules that the walks by hand share, beside the toolchain's. They know nothing of the functions that are walked.
 -- A local is named by its number in the code: behind s entries of the context and with n locals, the cell of local i stands at s + 2 (n - 1 - i), and what lets it be freed behind it.
---     Held E x τ v     the operand x is v, a value of the type τ.        local, field, behind     it is a local, a field of one, or what a local points to
---     arg              a local is passed as it stands.        takes, takes-as, stores      an operand is stored, in a local and behind a reference
---     packs            a struct of two fields is made in a local.        gone             a local is given back, whatever it holds.        hole, fills      an entry is taken out of its place, and put back
---     Law R            how a value of the type R is spelled, that its relation tells it, and that it is typed.        structLaw, enumLaw, mutLaw
---     met              a run meets its contract, from a walk at the machine values written out, with their typing in hand
---     After T X E v    what there is after a call: the tokens T, some x of the type X with the machine value v, and E x.        left     it is made of an x
---     answered         it gives v's typing, and what each x gives.        answers      a call's answer lands in its local, written out, with what the callee says of it in hand
---     hands            the callee's number is the caller's, where what the one says of it the other says
---     beside, told     a fact is said beside last values of which nothing is said;  and it goes from one function's `ensures` to another's
---     opens-at         a `&mut` is opened, with what lies behind it written out.        lends, comes-back        a local is lent for a call, and comes back at its last value
+--     Held E x τ v                the operand x is v, a value of the type τ
+--     local, field, behind        it is a local, a field of one, or what a local points to
+--     arg                         a local is passed as it stands
+--     takes, takes-as, stores     an operand is stored, in a local and behind a reference
+--     packs                       a struct of two fields is made in a local
+--     gone                        a local is given back, whatever it holds
+--     hole, fills                 an entry is taken out of its place, and put back
+--     Law R                       how a value of the type R is spelled, that its relation tells it, and that it is typed
+--     structLaw, enumLaw, mutLaw  that of a struct, an enum, a mutable reference
+--     met                         a run meets its contract, from a walk at the machine values written out, with their typing in hand
+--     After T X E v               what there is after a call: the tokens T, some x of the type X with the machine value v, and E x
+--     left                        it is made of an x
+--     answered                    it gives v's typing, and what each x gives
+--     answers                     a call's answer lands in its local, written out, with what the callee says of it in hand
+--     hands                       the callee's number is the caller's, where what the one says of it the other says
+--     beside, told                a fact is said beside last values of which nothing is said;  and it goes from one function's `ensures` to another's
+--     opens-at                    a `&mut` is opened, with what lies behind it written out
+--     lends, comes-back           a local is lent for a call, and comes back at its last value
 -- What every walk names of the logic is passed on by the `pub use` lines. Assumes `Given`.
 pub use mathlib.Core.Path.{_≡_, refl}
 pub use Prim.Native.Nat.{ℕ}

@@ -1,15 +1,14 @@
 -- What the outcome of a call gives at the boundary, by the case of its answer.
-use mathlib.Core.Path.{_≡_, refl, ap, sym}
-use Prim.Native.Nat.{ℕ, zero, suc}
-use mathlib.Core.Bool.{true, false, true≢false}
-use native.Mathlib.Omega.{arith}
+use mathlib.Core.Path.{_≡_, refl, ap}
+use Prim.Native.Nat.{ℕ}
 use lib.Ieee.{Float}
 use lib.ListN.{length}
 use mathlib.Core.List.{List}
 use Rattle.grid.specs.declared.Cell.{Cell}
 use Rattle.grid.specs.Map.{Map}
 use Rattle.grid.specs.declared.Grid.{Grid}
-use Rattle.grid.specs.Answer.{Answer, answered, refused, decide, after, shown, firstNo}
+use Rattle.grid.specs.Answer.{refused, decide, after, shown, firstNo}
+use Rattle.grid.proofs.Answers.{decide-no, decided-yes, decided-no}
 use Rattle.bounds.specs.declared.Spacing.{Spacing}
 use Rattle.search.specs.declared.MostPopulous.{MostPopulous}
 use Rattle.search.specs.declared.SearchAnswer.{SearchAnswer}
@@ -30,21 +29,6 @@ use Rattle.kernel.specs.declared.CircleAnswer.the-variants as circle-answer
 use Rattle.kernel.specs.Call.{CircleOutcome, circleCall, circleAnswer}
 use Rattle.jadurphen.specs.Crossing.{numberOf, written}
 use Rattle.jadurphen.specs.Calls.{circleReturned, circleCrossed, circleCrossing, searchWords, searchReturned, searchCrossed, searchCrossing, putReturned, putCrossed, putCrossing}
-
--- ---- answers
-
--- answered, so no question says no
-pub no-refusal : {A : Type 0} (n : ℕ) (a b : A) → answered b ≡ decide n a → n ≡ 0
-unfolding decide numberOf
-no-refusal zero a b e = refl
-no-refusal (suc n) a b e = sym (ap numberOf e)
-
--- a refusal's number is above 0, so it says a refusal by itself
-pub still-refused : {A B : Type 0} (k n : ℕ) (a : A) (b : B) → refused n ≡ decide k a → decide n b ≡ refused n
-unfolding decide after numberOf
-still-refused k (suc n) a b e = refl
-still-refused zero zero a b e = absurd (true≢false (sym (ap (λ (x : Answer _). after x true false) e)))
-still-refused (suc k) zero a b e = let above : 0 ≡ suc k = ap numberOf e in absurd (omega arith)
 
 -- ---- the single circle
 
@@ -79,7 +63,7 @@ module _ (m : Map) (spacing : Spacing) (km : ℕ) (lent : Buffers) (words : List
   said n gave is =
       let k = firstNo (searchQuestions m side km lent) in
       let answer : searchAnswer r ≡ decide k (search m side km) = ap (λ (o : SearchOutcome). o .answer) gave in
-      still-refused k n (search m side km) tt (rw is at answer)
+      decide-no n n tt refl (decided-no n k (search m side km) (rw is at answer))
 
   pub search-refused : (n : ℕ) → SearchGave → r ≡ search-answer.Refused n
       → searchReturned n words tolerance sums current following ≡ searchCrossing m spacing km lent words tolerance
@@ -96,8 +80,8 @@ module _ (g : Grid) (words : List ℕ) (km : ℕ) (centre c : Candidate) (made :
   unfolding putCall putAnswer
   put-fits gave is =
       let answer : putAnswer r ≡ decide (firstNo (putQuestions g l (entry km c))) tt = ap (λ (o : PutOutcome). o .answer) gave in
-      let none = no-refusal (firstNo (putQuestions g l (entry km c))) tt tt (rw is at answer) in
-      fits-length words (counted-fits words (rw read at (put-room g l (entry km c) none .counted)))
+      let none = decided-yes (firstNo (putQuestions g l (entry km c))) tt tt (rw is at answer) in
+      fits-length words (counted-fits words (rw read at (put-room g l (entry km c) (none .0) .counted)))
 
   pub put-done : (w : List ℕ) → PutGave → r ≡ put-answer.Done → w ≡ ledgerWords l′ → putReturned 0 w ≡ putCrossing g words (entry km centre)
   unfolding putCrossing putCrossed putAnswer numberOf after

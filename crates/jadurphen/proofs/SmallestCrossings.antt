@@ -1,6 +1,5 @@
 -- The words of a smallest radius, and what its outcome gives at the boundary by the case of its answer.
 use mathlib.Core.Path.{_≡_, refl, ap}
-use mathlib.Core.Bool.{Bool, true, false}
 use mathlib.Core.List.{List, [], _∷_, _++_}
 use Prim.Native.Nat.{ℕ, _≤_}
 use native.Mathlib.Omega.{arith}
@@ -8,8 +7,10 @@ use mir.Val.{boolByte}
 use lib.Ieee.{Float}
 use lib.ListN.{length}
 use Rattle.lists.specs.Counted.{one}
+use Rattle.lists.proofs.Bools.{byte-one}
 use Rattle.grid.specs.Map.{Map}
 use Rattle.grid.specs.Answer.{refused, decide, after, shown, firstNo}
+use Rattle.grid.proofs.Answers.{decide-no, decided-yes, decided-no}
 use Rattle.bounds.specs.declared.Spacing.{Spacing}
 use Rattle.search.specs.Call.{Buffers, buffers}
 use Rattle.ledger.specs.declared.Ledger.{Ledger}
@@ -30,14 +31,8 @@ use Rattle.words.specs.Words.{ledgerLength, wordAt, ledgerOf, ledgerWords}
 use Rattle.jadurphen.specs.Crossing.{numberOf, written}
 use Rattle.jadurphen.specs.Smallest.{shortWords, ambiguityWords, smallestWords, smallestFloats, smallestReturned, smallestCrossed, smallestCrossing}
 use Rattle.words.proofs.Places.{counted-fits, fits-length}
-use Rattle.jadurphen.proofs.Crossings.{no-refusal, still-refused}
 
 -- ---- the words
-
-as-number : (b : Bool) → boolByte b ≡ one b
-unfolding one
-as-number true = refl
-as-number false = refl
 
 -- the witness's three words and the ambiguity's four, read one by one
 laid : (short : ShortBelow) (within : Ambiguity) (covers km row col population : ℕ) (tail : List ℕ)
@@ -58,7 +53,7 @@ pub words-laid : (a : Smallest) (short within : List ℕ) → short ≡ shortWor
     ≡ smallestWords a
 unfolding smallestWords
 words-laid a short within e f =
-    rw (e, f, as-number (a .«covers_whole_grid»))
+    rw (e, f, byte-one (a .«covers_whole_grid»))
     (laid (a .«short_below») (a .ambiguity) (one (a .«covers_whole_grid»)) (a .«radius_km» .0) (a .centre .row .0) (a .centre .col .0) (a .centre .population) _)
 
 -- ---- the call
@@ -78,8 +73,8 @@ module _ (m : Map) (spacing : Spacing) (share : Float) (ledger : List ℕ) (lent
   pub smallest-fits : (a : Smallest) → SmallestGave → r ≡ smallest-answer.Found a → length ledger ≡ ledgerLength
   unfolding smallestAnswer
   smallest-fits a gave is =
-      let none = no-refusal (firstNo (smallestQuestions m side share l lent)) (smallest m side share l .answer) a (rw is at (answered-by gave)) in
-      let free = places-free l mostRadii (smallest-passed m side share l lent none .own .room) in
+      let none = decided-yes (firstNo (smallestQuestions m side share l lent)) (smallest m side share l .answer) a (rw is at (answered-by gave)) in
+      let free = places-free l mostRadii (smallest-passed m side share l lent (none .0) .own .room) in
       let counted : l .len ≤ capacity = omega (arith, free) in
       fits-length ledger (counted-fits ledger (rw read at counted))
 
@@ -91,7 +86,7 @@ module _ (m : Map) (spacing : Spacing) (share : Float) (ledger : List ℕ) (lent
 
   said : (n : ℕ) → SmallestGave → r ≡ smallest-answer.Refused n → decide n (tt {0}) ≡ refused n
   unfolding smallestAnswer
-  said n gave is = still-refused (firstNo (smallestQuestions m side share l lent)) n (smallest m side share l .answer) tt (rw is at (answered-by gave))
+  said n gave is = decide-no n n tt refl (decided-no n (firstNo (smallestQuestions m side share l lent)) (smallest m side share l .answer) (rw is at (answered-by gave)))
 
   pub smallest-refused : (words : List ℕ) (floats : List Float) (n : ℕ) → SmallestGave → r ≡ smallest-answer.Refused n
       → smallestReturned n ledger words floats sums current following ≡ smallestCrossing m spacing share ledger lent words floats

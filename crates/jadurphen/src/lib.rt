@@ -1,5 +1,5 @@
 // The C boundary: each call over numbers and slices. It returns 0, or the number of its refusal with nothing written.
-// A slice crosses as a pointer and then a length; `include/jadurphen.h` declares the functions.
+// A slice crosses as two arguments, its pointer and its length; `include/jadurphen.h` declares the functions.
 mod circle;
 mod put;
 mod search_call;

@@ -70,7 +70,7 @@ mostFields f =
 unfoldable pub mostLine : MostPopulous → List ℕ
 mostLine f = mostWord ++ fields (mostFields f) ++ newline
 
--- short km and short population, a `-` in each of the two when absent
+-- kilometre and population of the short witness, or two times `-` where there is none
 unfoldable pub shortFields : ShortBelow → List ℕ
 shortFields short-case.Absent = 32 ∷ 45 ∷ 32 ∷ 45 ∷ []
 shortFields (short-case.Witness km population) = fields (km .0 ∷ population ∷ [])

@@ -1,12 +1,14 @@
 -- Commands by their branches: too early, off the grid, or done.
-use Prim.Native.Nat.{ℕ, zero, suc, _≤_, _<_}
+use Prim.Native.Nat.{ℕ, _≤_, _<_}
 use mathlib.Core.Path.{_≡_, refl, sym, _∙_, ap}
 use mathlib.Core.Bool.{Bool, true, false}
 use mathlib.Core.List.{List, [], _∷_}
 use native.Mathlib.Omega.{arith}
 use Rattle.grid.specs.declared.Grid.{Grid}
-use Rattle.grid.specs.Answer.{question, firstNo, answered, refused, decide}
+use Rattle.grid.specs.Answer.{question, firstNo, answered, refused}
+use Rattle.grid.proofs.Answers.{asked-yes, asked-no, asked-none, decide-yes, decide-no}
 use Rattle.grid.specs.Questions.{gridQuestions}
+use Rattle.ledger.proofs.Calls.{no-number}
 use Rattle.job_commands.specs.declared.Command.{Command}
 use Rattle.job_commands.specs.declared.Command.the-variants.{SetGrid}
 use Rattle.job_world.specs.declared.JobState.{JobState}
@@ -15,16 +17,6 @@ use Rattle.job_lines.specs.State.{textOf}
 use Rattle.job_world.specs.World.{World, world, empty, begun, sizeTaken, emptyMap, emptied}
 use Rattle.job_world.specs.State.{worldOf, stateOf}
 use Rattle.job_step.specs.Apply.{Done, placed, inWorld, first, apply, settle, applied}
-
-decide-refused : {A : Type 0} (n : ℕ) (a : A) → 0 < n → decide n a ≡ refused n
-unfolding decide
-decide-refused zero a h = absurd (omega arith)
-decide-refused (suc n) a h = refl
-
-decide-answered : {A : Type 0} (n : ℕ) (a : A) → n ≤ 0 → decide n a ≡ answered a
-unfolding decide
-decide-answered zero a h = refl
-decide-answered (suc n) a h = absurd (omega arith)
 
 -- what goes on prints a line that may be none
 unfoldable pub goneOn : JobState → Line → Done
@@ -59,13 +51,13 @@ module _ (s : JobState) where
 
   -- an index off the grid, and one on it
   pub off-grid : (c : Command) (on : Bool) (w : World) → inWorld (worldOf s) c ≡ placed on w → s .begun ≡ true → on ≡ false → settle (stateOf s) (refused 15) ≡ applied (stateOf s) c
-  unfolding placed firstNo decide
-  off-grid c on w e h t = refused-there c 15 (e ∙ rw t) h
+  unfolding placed
+  off-grid c on w e h t = refused-there c 15 (e ∙ decide-no 15 _ _ (asked-no [] t) (λ z. omega (arith, z))) h
 
   pub on-grid : (c : Command) (on : Bool) (w : World) (t : JobState) (line : Line) → inWorld (worldOf s) c ≡ placed on w → s .begun ≡ true → on ≡ true → stateOf t ≡ begun w
       → textOf line ≡ [] → goneOn t line ≡ applied (stateOf s) c
-  unfolding placed firstNo decide
-  on-grid c on w t line e h b p q = gone-on c w [] t line (e ∙ rw b) h p q
+  unfolding placed
+  on-grid c on w t line e h b p q = gone-on c w [] t line (e ∙ decide-yes _ _ (sym (asked-yes 15 [] b asked-none))) h p q
 
   -- ---- G
 
@@ -79,19 +71,20 @@ module _ (s : JobState) where
     first-grid = rw (state-empty early)
 
     pub grid-large : sizeTaken g ≡ false → settle (stateOf s) (refused 14) ≡ applied (stateOf s) (SetGrid g)
-    unfolding first firstNo decide
-    grid-large t = rw (first-grid, t, state-empty early)
+    unfolding first
+    grid-large t =
+        rw (first-grid, state-empty early) (ap (settle (empty (s .ledger))) (sym (decide-no 14 _ _ (asked-no (gridQuestions g) t) (λ z. omega (arith, z)))))
 
     module _ (taken : sizeTaken g ≡ true) (n : ℕ) (is : n ≡ firstNo (gridQuestions g)) where
-      grid-asked : firstNo (question 14 (sizeTaken g) ∷ gridQuestions g) ≡ n
-      unfolding firstNo
-      grid-asked = rw taken (sym is)
+      grid-asked : n ≡ firstNo (question 14 (sizeTaken g) ∷ gridQuestions g)
+      grid-asked = asked-yes 14 (gridQuestions g) taken is
 
       pub grid-refused : 0 < n → settle (stateOf s) (refused n) ≡ applied (stateOf s) (SetGrid g)
       unfolding first
-      grid-refused h = rw (first-grid, grid-asked, state-empty early) (ap (settle (empty (s .ledger))) (sym (decide-refused n _ h)))
+      grid-refused h =
+          rw (first-grid, state-empty early) (ap (settle (empty (s .ledger))) (sym (decide-no n _ _ grid-asked (λ z. omega (arith, z, h)))))
 
       pub grid-begins : n ≤ 0 → (t : JobState) (line : Line) → stateOf t ≡ begun (world (emptyMap g) (emptied (s .ledger))) → textOf line ≡ []
           → goneOn t line ≡ applied (stateOf s) (SetGrid g)
       unfolding first settle goneOn
-      grid-begins h t line p q = rw (first-grid, grid-asked, p, q) (ap (settle (empty (s .ledger))) (sym (decide-answered n _ h)))
+      grid-begins h t line p q = rw (first-grid, p, q) (ap (settle (empty (s .ledger))) (sym (decide-yes _ _ (no-number grid-asked h))))

@@ -21,7 +21,7 @@ use Rattle.job_world.specs.declared.JobState.{JobState}
 use Rattle.job_world.specs.World.{world}
 use Rattle.job_world.specs.State.{jobMap, worldOf}
 use Rattle.job_step.specs.Apply.{going, jobSpacing, jobBuffers, mostDone, leastDone, inWorld}
-use Rattle.job_step.specs.State.{LeastOf}
+use Rattle.job_step.specs.State.{IsLeast}
 
 pub spacing-cells : (n : ℕ) → (n ≡ 0 → ⊥) → Cells n ≡ jobSpacing n
 unfolding jobSpacing
@@ -46,7 +46,7 @@ search-lent m p km o n q h d e = rw (sym d, sym e) (ap (λ (x : SearchOutcome). 
 -- ---- R
 
 module _ (s : JobState) (spacing : ℕ) (share : Float) (r : SmallestResult)
-    (is : LeastOf (smallestCall (jobMap s) (jobSpacing spacing) share (s .ledger) jobBuffers) r) where
+    (is : IsLeast (smallestCall (jobMap s) (jobSpacing spacing) share (s .ledger) jobBuffers) r) where
   pub least-found : (a : Smallest) → r .answer ≡ smallest-answer.Found a
       → inWorld (worldOf s) (Least spacing share) ≡ answered (going (world (jobMap s) (r .ledger)) (leastLine a))
   unfolding inWorld worldOf leastDone smallestAnswer
@@ -58,6 +58,6 @@ module _ (s : JobState) (spacing : ℕ) (share : Float) (r : SmallestResult)
 
 pub smallest-lent : (m : Map) (p : Spacing) (share : Float) (l : Ledger) (r : SmallestResult) (lent : Buffers) (n : Map) (q : Spacing)
     → _≡_ {A = SmallestOutcome} (record { answer = smallestAnswer (r .answer); ledger = r .ledger; lent = lent }) (smallestCall n q share l jobBuffers)
-    → n ≡ m → q ≡ p → LeastOf (smallestCall m p share l jobBuffers) r
+    → n ≡ m → q ≡ p → IsLeast (smallestCall m p share l jobBuffers) r
 smallest-lent m p share l r lent n q h d e =
     rw (sym d, sym e) (record { answer = ap (λ (x : SmallestOutcome). x .answer) h; ledger = ap (λ (x : SmallestOutcome). x .ledger) h })

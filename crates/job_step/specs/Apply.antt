@@ -52,7 +52,7 @@ leastDone m o (refused n) = refused n
 
 -- ---- a command in a world
 
--- an index off the grid or an offset above closing is 15
+-- question 15: rows and columns on the grid, and an offset up to closing
 unfoldable pub placed : Bool → World → Answer Done
 placed on w = decide (firstNo (question 15 on ∷ [])) (going w [])
 

@@ -13,7 +13,7 @@ use Rattle.job_step.specs.Apply.{Done}
 use Rattle.job_step.specs.Job.{Step, stepAfter}
 
 -- an R's answer and ledger as the code has them
-pub record LeastOf (o : SmallestOutcome) (r : SmallestResult) : Type 0 where
+pub record IsLeast (o : SmallestOutcome) (r : SmallestResult) : Type 0 where
   pub answer : smallestAnswer (r .answer) ≡ o .answer
   pub ledger : r .ledger ≡ o .ledger
 

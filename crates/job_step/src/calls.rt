@@ -12,7 +12,7 @@ ghost use Rattle.smallest.specs.Call.{smallestCall};
 ghost use Rattle.job_commands.specs.declared.Command.the-variants.{Most, Least};
 ghost use Rattle.job_world.specs.State.{jobMap, stateOf};
 ghost use Rattle.job_step.specs.Apply.{jobSpacing, jobBuffers, applied};
-ghost use Rattle.job_step.specs.State.{LeastOf, doneOf};
+ghost use Rattle.job_step.specs.State.{IsLeast, doneOf};
 
 // A spacing of 0 is automatic.
 fn spacing_of(spacing: u32) -> Spacing
@@ -68,7 +68,7 @@ pub fn run_most(state: JobState, spacing: u32, km: u32) -> Applied
 
 // The smallest radius on the map's part of the arrays.
 fn least_of(state: JobState, spacing: u32, share: f64) -> SmallestResult
-    ensures { λ r. ⌜ LeastOf (smallestCall (jobMap state) (jobSpacing spacing) share (state .ledger) jobBuffers) r ⌝ }
+    ensures { λ r. ⌜ IsLeast (smallestCall (jobMap state) (jobSpacing spacing) share (state .ledger) jobBuffers) r ⌝ }
 {
     let grid = state.grid;
     let counts = state.counts;

@@ -50,7 +50,7 @@ sizeTaken g = leb (g .width) jobColumns && leb (g .height) jobRows
 
 -- ---- G: a map with nothing set
 
--- unset counts and angles are 0, cosines 1
+-- nobody in any cell, each angle 0, each cosine 1
 unfoldable pub emptyMap : Grid → Map
 emptyMap g = lentMap g (replicate (cells g) 0) (replicate (angleCount g) (whole 0)) (replicate (g .height) (whole 1))
 

@@ -3,9 +3,11 @@ use Prim.Native.Nat.{ℕ, _<_, _^_}
 use mathlib.Core.Path.{_≡_, _∙_}
 use mathlib.Core.List.{List}
 use lib.ListN.{getD}
+use Rattle.lists.proofs.Bools.{of-true}
 use Rattle.floats.specs.Binary.{whole}
 use Rattle.grid.specs.declared.Cell.{Cell}
 use Rattle.grid.specs.Map.{Map, sheetOf}
+use Rattle.grid.proofs.CellOrder.{On, on-grid}
 use Rattle.sums.specs.Sums.{filledSums}
 use Rattle.sums.specs.State.{countsMap, tableMap}
 use Rattle.sums.specs.Requires.{Fillable}
@@ -13,31 +15,31 @@ use Rattle.sums.proofs.Tables.{fillable, bare-filled, table-map, summed}
 use Rattle.kernel.specs.declared.Kernel.{Kernel}
 use Rattle.kernel.specs.Circle.{population}
 use Rattle.kernel.specs.Kernel.{kernelOf, kernelPopulation}
-use Rattle.kernel.specs.Requires.{OnSheet, Placed}
+use Rattle.kernel.specs.Requires.{OnSheet, CanSum}
 use Rattle.kernel.proofs.Placing.{on-sheet, placed, circle-people}
-use Rattle.kernel.proofs.Calls.{CirclePassed, on-grid}
+use Rattle.kernel.proofs.Calls.{CirclePassed}
 
 module _ {m : Map} {sums : List ℕ} {km : ℕ} {centre : Cell} (p : CirclePassed m sums km centre) where
   pub to-fill : Fillable (m .globe .grid) (m .counts) sums
   to-fill = fillable m sums (p .map .grid .sizes) (p .map .counts) (p .fit)
 
-  row-on : centre .row .0 < m .globe .grid .height
-  row-on = on-grid (m .globe .grid) centre (p .on) .0
+  centre-on : On (m .globe .grid) centre
+  centre-on = on-grid (m .globe .grid) centre (of-true _ (p .on))
 
   pub to-build : OnSheet (m .globe .grid) (m .globe .angles) (centre .row)
-  to-build = on-sheet m (p .map) (centre .row) row-on
+  to-build = on-sheet m (p .map) (centre .row) (centre-on .row)
 
   -- once the sums are filled and the kernel is built
   module _ (last : List ℕ) (filled : last ≡ filledSums (countsMap (m .globe .grid) (m .counts)) sums)
       (k : Kernel) (is : k ≡ kernelOf (sheetOf (m .globe .grid) (m .globe .angles)) (centre .row) (whole km)) where
-    pub to-sum : ((i : ℕ) → getD (m .counts) i 0 < 2 ^ 32) → Placed (m .globe .grid) last k (centre .col)
+    pub to-sum : ((i : ℕ) → getD (m .counts) i 0 < 2 ^ 32) → CanSum (m .globe .grid) last k (centre .col)
     to-sum small =
-        placed m (p .map) (centre .row) row-on (whole km) (centre .col) last k is
-        (summed (m .globe .grid) (m .counts) sums last to-fill filled small) (on-grid (m .globe .grid) centre (p .on) .1)
+        placed m (p .map) (centre .row) (centre-on .row) (whole km) (centre .col) last k is
+        (summed (m .globe .grid) (m .counts) sums last to-fill filled small) (centre-on .col)
 
     pub summed-up : kernelPopulation (tableMap (m .globe .grid) last) k (centre .col) ≡ population m (whole km) centre
     summed-up =
-        circle-people m (p .map) (centre .row) row-on (whole km) (centre .col) last k is
+        circle-people m (p .map) (centre .row) (centre-on .row) (whole km) (centre .col) last k is
         (table-map (m .globe .grid) (m .counts) sums last to-fill filled)
 
     pub sums-filled : last ≡ filledSums m sums

@@ -1,14 +1,10 @@
 -- The single-circle call: what its questions have passed, and what an answer and a refusal leave.
-use Prim.Native.Nat.{ℕ, zero, suc, _<_}
-use mathlib.Core.Path.{_≡_, refl, sym}
+use Prim.Native.Nat.{ℕ}
+use mathlib.Core.Path.{_≡_, refl}
 use mathlib.Core.Bool.{true}
 use mathlib.Core.List.{List}
-use lib.Dec.{ltb}
-use borrow.Author.Tests.{ltb-true}
-use Rattle.lists.proofs.Bools.{and-left, and-right}
 use Rattle.floats.specs.Binary.{whole}
 use Rattle.grid.specs.declared.Cell.{Cell}
-use Rattle.grid.specs.declared.Grid.{Grid}
 use Rattle.grid.specs.Grid.{onGrid}
 use Rattle.grid.specs.Map.{Map}
 use Rattle.grid.specs.Answer.{firstNo, answered, refused, after}
@@ -38,19 +34,9 @@ module _ (m : Map) (sums : List ℕ) (km : ℕ) (centre : Cell) where
   pub circle-refused : (n : ℕ) → n ≡ firstNo (circleQuestions m sums km centre) → (n ≡ 0 → ⊥)
       → record { answer = refused n; sums = sums } ≡ circleCall m sums km centre
   unfolding circleCall after
-  circle-refused zero e h = absurd (h refl)
-  circle-refused (suc k) e h =
-      let n = firstNo (circleQuestions m sums km centre) in rw (decide-no n k (population m (whole km) centre) (sym e), ← e)
+  circle-refused n e h = rw (decide-no n (firstNo (circleQuestions m sums km centre)) (population m (whole km) centre) e h)
 
   pub circle-answered : (people : ℕ) (last : List ℕ) → firstNo (circleQuestions m sums km centre) ≡ 0 → people ≡ population m (whole km) centre
       → last ≡ filledSums m sums → record { answer = answered people; sums = last } ≡ circleCall m sums km centre
   unfolding circleCall after
   circle-answered people last e p l = rw (decide-yes (firstNo (circleQuestions m sums km centre)) (population m (whole km) centre) e, p, l)
-
--- the centre of an accepted call is on the grid
-pub on-grid : (g : Grid) (x : Cell) → onGrid g x ≡ true → (x .row .0 < g .height) × (x .col .0 < g .width)
-unfolding onGrid
-on-grid g x e =
-    let r = ltb (x .row .0) (g .height) in
-    let k = ltb (x .col .0) (g .width) in
-    (ltb-true (x .row .0) (g .height) (and-left r k e), ltb-true (x .col .0) (g .width) (and-right r k e))

@@ -22,7 +22,7 @@ use Rattle.grid.specs.Map.{Globe}
 use Rattle.grid.proofs.SheetOrder.{InOrder}
 use Rattle.kernel.specs.declared.Kernel.{Kernel}
 use Rattle.kernel.specs.Kernel.{reach, rowReach, runEnd, rowRun, kernelOf, rowPlaces}
-use Rattle.kernel.specs.Requires.{Banded, Joined}
+use Rattle.kernel.specs.Requires.{Banded, RunsJoined}
 use Rattle.lists.proofs.Counts.{count-is, count-le, count-tests}
 use Rattle.kernel.proofs.Reaches.{missed-beyond}
 use Rattle.kernel.proofs.RowRuns.{run-onward, run-alike}
@@ -231,6 +231,6 @@ module _ (s : Globe) (c : Row) (km : Float) (high : s .grid .height ≤ rowPlace
       run-same i p q =
           kernel-reach i (omega (arith, run-within, end-le)) ∙ run-reach i p q ∙ sym (kernel-reach r (omega (arith, end-le)))
 
-    pub kernel-joined : Joined (kernelOf s c km)
+    pub kernel-joined : RunsJoined (kernelOf s c km)
     kernel-joined =
         record { onward = λ r h u. omega (arith, run-at r h u, run-onward (rowReach s c km) (rowPlaces - r) r); within = run-within; alike = run-same }

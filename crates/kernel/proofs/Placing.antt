@@ -17,7 +17,7 @@ use Rattle.sums.specs.Requires.{Summed}
 use Rattle.kernel.specs.declared.Kernel.{Kernel}
 use Rattle.kernel.specs.Circle.{population}
 use Rattle.kernel.specs.Kernel.{reach, rowReach, rowRun, kernelOf, inKernel, kernelPopulation, rowPlaces}
-use Rattle.kernel.specs.Requires.{OnSheet, Banded, Joined, Placed}
+use Rattle.kernel.specs.Requires.{OnSheet, Banded, RunsJoined, CanSum}
 use Rattle.kernel.specs.State.{rowsOnly}
 use Rattle.kernel.proofs.Kernels.{kernel-banded, kernel-joined}
 use Rattle.kernel.proofs.Cells.{kernel-people}
@@ -37,7 +37,7 @@ people-sheet m k col = refl
 abbrev pub rowsOf : Kernel → Kernel
 rowsOf k = rowsOnly (k .north) (k .end) (k .reach) (k .run)
 
-pub rows-placed : {g : Grid} {sums : List ℕ} {k : Kernel} {col : Col} → Placed g sums k col → Placed g sums (rowsOf k) col
+pub rows-placed : {g : Grid} {sums : List ℕ} {k : Kernel} {col : Col} → CanSum g sums k col → CanSum g sums (rowsOf k) col
 rows-placed p =
     let b = p .band in
     record {
@@ -58,7 +58,7 @@ module _ (g : Grid) (angles cosines : List Float) (row : Row) (km : Float) where
     pub sheet-banded : Banded g (kernelOf (sheetOf g angles) row km)
     sheet-banded = rw (kernel-sheet (globeOf g angles cosines) row km) (kernel-banded (globeOf g angles cosines) row km high on q)
 
-    pub sheet-joined : Joined (kernelOf (sheetOf g angles) row km)
+    pub sheet-joined : RunsJoined (kernelOf (sheetOf g angles) row km)
     sheet-joined = rw (kernel-sheet (globeOf g angles cosines) row km) (kernel-joined (globeOf g angles cosines) row km high on q)
 
     -- a kernel of the sheet over a table has the people of the circle of the map that they make
@@ -84,7 +84,7 @@ module _ (m : Map) (p : Passed m) (row : Row) (on : row .0 < m .globe .grid .hei
     built : k ≡ kernelOf (m .globe) row km
     built = is ∙ kernel-sheet (m .globe) row km
 
-    pub placed : Summed (m .globe .grid) sums → col .0 < m .globe .grid .width → Placed (m .globe .grid) sums k col
+    pub placed : Summed (m .globe .grid) sums → col .0 < m .globe .grid .width → CanSum (m .globe .grid) sums k col
     placed t c =
         let high = grid-sizes (m .globe .grid) (p .grid .sizes) .rows in
         record { table = t; band = rw built (kernel-banded (m .globe) row km high on order); runs = rw built (kernel-joined (m .globe) row km high on order); on = c }

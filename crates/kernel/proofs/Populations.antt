@@ -8,7 +8,6 @@ use lib.Dec.{T, lit≤}
 use lib.ListN.{getD}
 use lib.Ieee.{Float, le, eq}
 use Rattle.floats.specs.Binary.{whole}
-use Rattle.floats.proofs.Whole.{whole-le}
 use Rattle.lists.proofs.Bools.{is-true}
 use Rattle.lists.proofs.Sums.{sum-ext, sum-zeros, sum-le}
 use Rattle.grid.specs.declared.Cell.{Cell}
@@ -76,11 +75,6 @@ module _ (m : Map) where
   population-all q km h c C =
       sum-ext (m .globe .grid .height) _ _ (λ r R. sum-ext (m .globe .grid .width) _ _ (λ k K.
       rw (is-true (inCircle (m .globe) km c (cell r k)) (circle-all (m .globe) q c C km h (cell r k) R))))
-
-  pub population-ceiling : InOrder (m .globe) → (c : Cell) → c .row .0 < m .globe .grid .height → population m (whole (ceiling (m .globe .grid))) c ≡ total m
-  population-ceiling q c C =
-      let top = ceiling (m .globe .grid) in
-      population-all q (whole top) (whole-le top top (le-refl top)) c C
 
   -- ---- how large they are
 

@@ -9,7 +9,7 @@ use Rattle.grid.specs.declared.Cell.{Cell}
 use Rattle.grid.specs.Grid.{angleOf, cell, columnDistance}
 use Rattle.grid.specs.Map.{Globe, Map, angleAt, count}
 
--- the sheet's angle from a centre to a cell: its row's, at the column distance around the ring
+-- the sheet's angle from a centre to a cell, by their rows and their column distance
 unfoldable pub angleTo : Globe → Cell → Cell → Float
 angleTo s centre x = angleAt s (centre .row) (x .row) (columnDistance (s .grid .width) (centre .col .0) (x .col .0))
 

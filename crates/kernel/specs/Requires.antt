@@ -54,14 +54,14 @@ pub record Banded (g : Grid) (k : Kernel) : Type 0 where
   pub missed : (r : ℕ) → (r < k .north) ⊎ (k .end ≤ r) → getD (k .reach) r 0 ≡ 0
 
 -- a kernel's runs: each ends within the band, after its row, and has the reach of its row
-pub record Joined (k : Kernel) : Type 0 where
+pub record RunsJoined (k : Kernel) : Type 0 where
   pub onward : (r : ℕ) → k .north ≤ r → r < k .end → r < getD (k .run) r 0
   pub within : (r : ℕ) → k .north ≤ r → r < k .end → getD (k .run) r 0 ≤ k .end
   pub alike : (r : ℕ) → k .north ≤ r → r < k .end → (i : ℕ) → r ≤ i → i < getD (k .run) r 0 → getD (k .reach) i 0 ≡ getD (k .reach) r 0
 
 -- a table, a kernel and a column of one grid
-pub record Placed (g : Grid) (sums : List ℕ) (k : Kernel) (col : Col) : Type 0 where
+pub record CanSum (g : Grid) (sums : List ℕ) (k : Kernel) (col : Col) : Type 0 where
   pub table : Summed g sums
   pub band : Banded g k
-  pub runs : Joined k
+  pub runs : RunsJoined k
   pub on : col .0 < g .width

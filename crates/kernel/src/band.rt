@@ -10,12 +10,12 @@ use sums::RowBand;
 ghost use mathlib.Core.Path.{_≡_};
 ghost use Rattle.kernel.specs.Kernel.{kernelOf, kernelPopulation};
 ghost use Rattle.grid.specs.Map.{sheetOf};
-ghost use Rattle.kernel.specs.Requires.{OnSheet, Placed};
+ghost use Rattle.kernel.specs.Requires.{OnSheet, CanSum};
 ghost use Rattle.kernel.specs.State.{rowsOnly};
 ghost use Rattle.sums.specs.State.{tableMap};
 
-// The kernel of a centre row and a radius: north and then south from the centre row, each way up to the first row missed, since the rows
-// touched are one band. The centre row's reach is what either walk looks from.
+// The kernel of a centre row and a radius. Two walks lead outward from the centre row, the northern one first, and end where a row is
+// missed, since the rows touched are one band. The centre row's reach is what either walk looks from.
 pub fn build(grid: Grid, angles: &[f64], row: Row, km: f64) -> Kernel
     requires { ⌜ OnSheet grid (now angles) row ⌝ }
     ensures { λ k. ⌜ k ≡ kernelOf (sheetOf grid (now (angles .entry))) row km ⌝ }
@@ -64,7 +64,7 @@ pub fn circle_population<'a>(
     run: &'a [u8; ROWS],
     col: Col,
 ) -> u64
-    requires { ⌜ Placed grid (now sums) (rowsOnly north end (now reach) (now run)) col ⌝ }
+    requires { ⌜ CanSum grid (now sums) (rowsOnly north end (now reach) (now run)) col ⌝ }
     ensures { λ r. ⌜ r ≡ kernelPopulation (tableMap grid (now (sums .entry))) (rowsOnly north end (now (reach .entry)) (now (run .entry))) col ⌝ }
 {
     let mut population: u64 = 0;

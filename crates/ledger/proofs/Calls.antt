@@ -1,13 +1,13 @@
 -- Laws of the put call: what its questions leave a put to rely on, and what it gives.
-use Prim.Native.Nat.{ℕ, zero, suc, _+_, _≤_, _<_}
+use Prim.Native.Nat.{ℕ, _+_, _≤_, _<_}
 use mathlib.Core.Path.{_≡_, refl}
 use mathlib.Core.Bool.{true}
 use native.Mathlib.Omega.{arith}
 use borrow.Author.Tests.{le-leb}
 use Rattle.lists.proofs.Bools.{and-left}
 use Rattle.grid.specs.declared.Grid.{Grid}
-use Rattle.grid.specs.Answer.{firstNo, answered, refused, decide, after}
-use Rattle.grid.proofs.Answers.{grid-then}
+use Rattle.grid.specs.Answer.{firstNo, answered, refused, after}
+use Rattle.grid.proofs.Answers.{grid-then, decide-yes, decide-no}
 use Rattle.ledger.specs.declared.Entry.{Entry}
 use Rattle.ledger.specs.declared.Ledger.{Ledger}
 use Rattle.ledger.specs.declared.Got.{Got}
@@ -39,10 +39,9 @@ module _ (g : Grid) (l : Ledger) (x : Entry) where
       record { counted = parts .counted; rising = parts .rising; place = own .1 .0 }
 
   pub call-refused : (n : ℕ) → n ≡ firstNo (putQuestions g l x) → 0 < n → record { answer = refused n; ledger = l } ≡ putCall g l x
-  unfolding putCall decide after
-  call-refused zero e h = absurd (omega arith)
-  call-refused (suc n) e h = rw (← e)
+  unfolding putCall after
+  call-refused n e h = rw (decide-no n (firstNo (putQuestions g l x)) (tt {0}) e (λ z. omega (arith, z, h)))
 
   pub call-done : (l′ : Ledger) → firstNo (putQuestions g l x) ≡ 0 → l′ ≡ put l x → record { answer = answered tt; ledger = l′ } ≡ putCall g l x
-  unfolding putCall decide after
-  call-done l′ e p = rw (e, p)
+  unfolding putCall after
+  call-done l′ e p = rw (decide-yes (firstNo (putQuestions g l x)) (tt {0}) e, p)

@@ -15,12 +15,11 @@ use Rattle.lists.proofs.Elements.{AllOf, none, also, all-zip, all-map, all-appe
 use Rattle.lists.proofs.Sorts.{all-sort, total-sort, length-sort}
 use Rattle.grid.specs.declared.Grid.{Grid}
 use Rattle.grid.specs.Map.{Map}
-use Rattle.kernel.specs.Circle.{population}
 use Rattle.blocks.specs.declared.Block.{Block}
 use Rattle.candidates.specs.declared.Held.{Held}
 use Rattle.levels.specs.declared.Tally.{Tally}
-use Rattle.blocks.specs.Block.{area, probe, byProbe, split, Rectangle}
-use Rattle.bounds.specs.Bound.{wideKm}
+use Rattle.blocks.specs.Block.{area, byProbe, split, Rectangle}
+use Rattle.bounds.specs.Bound.{wideKm, bound}
 use Rattle.candidates.specs.Candidate.{prunes}
 use Rattle.levels.specs.Level.{plus, plusStats, Outcome, Work, wideBuilt, exactBuilt, pruned, evaluated, examine, started, joined, level}
 use Rattle.blocks.proofs.Tiles.{length-area, split-settled, split-rectangle, split-shorter, extent}
@@ -144,7 +143,7 @@ module _ (g : Grid) where
   unfolding examine
   block-counts m km w b r =
       let wide = wideKm (m .globe) km b in
-      cond-case (λ (v : Work). Counts g 0 (w .outcome) (v .outcome) (b ∷ [])) (prunes (population m wide (probe b)) (w .outcome .held))
+      cond-case (λ (v : Work). Counts g 0 (w .outcome) (v .outcome) (b ∷ [])) (prunes (bound m km b) (w .outcome .held))
       (pruned w b wide) (evaluated m km w b wide) (λ e. pruned-counts w b wide) (λ e. evaluated-counts m km w b wide r)
 
   -- ---- a chunk

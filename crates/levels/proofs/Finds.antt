@@ -95,7 +95,7 @@ module _ (m : Map) (km : Float) where
         keeps = λ x a. a;
       }
 
-  probe-circle : (b : Block) → Rectangle (m .globe .grid) b → Circle m km (candidate m km (probe b))
+  pub probe-circle : (b : Block) → Rectangle (m .globe .grid) b → Circle m km (candidate m km (probe b))
   unfolding candidate
   probe-circle b r =
       let h = probe-held (m .globe .grid) b r in
@@ -126,10 +126,10 @@ module _ (m : Map) (km : Float) where
       left x h e = inr (rw (concat-snoc split (o .survivors) b) (any-right (concatEach split (o .survivors)) (split-cover (m .globe .grid) b r e x h)))
 
   block-step : Bounded m km → (w : Work) (b : Block) → Rectangle (m .globe .grid) b → Step (w .outcome) (examine m km w b .outcome) (b ∷ [])
-  unfolding examine bound
+  unfolding examine
   block-step bounded w b r =
       let wide = wideKm (m .globe) km b in
-      cond-case (λ (v : Work). Step (w .outcome) (v .outcome) (b ∷ [])) (prunes (population m wide (probe b)) (w .outcome .held))
+      cond-case (λ (v : Work). Step (w .outcome) (v .outcome) (b ∷ [])) (prunes (bound m km b) (w .outcome .held))
       (pruned w b wide) (evaluated m km w b wide) (pruned-step bounded w b wide r) (λ e. evaluated-step w b wide r)
 
   -- ---- a chunk, and a level

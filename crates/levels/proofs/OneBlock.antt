@@ -13,7 +13,7 @@ use Rattle.lists.proofs.Bools.{and-right}
 use Rattle.lists.proofs.Sums.{times-le}
 use Rattle.grid.specs.declared.Cell.{Cell}
 use Rattle.grid.specs.declared.Grid.{Grid}
-use Rattle.grid.specs.Grid.{closing}
+use Rattle.grid.specs.Grid.{mostColumns, mostRows, closing}
 use Rattle.grid.specs.Map.{Map, globeOf, sheetOf}
 use Rattle.grid.specs.Questions.{sheetComplete}
 use Rattle.grid.proofs.Sizes.{Sizes, grid-sizes}
@@ -22,14 +22,14 @@ use Rattle.sums.specs.State.{tableMap}
 use Rattle.kernel.specs.declared.Kernel.{Kernel}
 use Rattle.kernel.specs.Circle.{population}
 use Rattle.kernel.specs.Kernel.{kernelOf, kernelPopulation}
-use Rattle.kernel.specs.Requires.{Sheet, Placed, Banded, Joined}
+use Rattle.kernel.specs.Requires.{Sheet, CanSum, Banded, RunsJoined}
 use Rattle.kernel.proofs.Placing.{rowsOf, rows-placed, rows-people, sheet-banded, sheet-joined, sheet-people}
 use Rattle.blocks.specs.declared.Block.{Block}
 use Rattle.blocks.specs.Block.{area, isCell, probe, Rectangle}
 use Rattle.blocks.specs.Requires.{Small}
 use Rattle.blocks.proofs.Tiles.{probe-held}
 use Rattle.blocks.proofs.Words.{rectangle-small}
-use Rattle.bounds.specs.Bound.{wideKm}
+use Rattle.bounds.specs.Bound.{wideKm, bound}
 use Rattle.candidates.specs.declared.Held.{Held}
 use Rattle.candidates.specs.declared.Held.the-variants.{Best}
 use Rattle.candidates.specs.Candidate.{candidateOf, candidate, betterHeld, prunes}
@@ -74,17 +74,17 @@ module _ (g : Grid) (angles cosines : List Float) (sums : List ℕ) (t : Ready g
     block-narrow : area b ≤ mostCells
     unfolding area
     block-narrow =
-        times-le (b .last .0 + 1 - b .first .0) (b .south .0 + 1 - b .north .0) 180 90 (omega (arith, r .east, ready-sizes .columns)) (omega (arith, r .south, ready-sizes .rows))
+        times-le (b .last .0 + 1 - b .first .0) (b .south .0 + 1 - b .north .0) mostColumns mostRows (omega (arith, r .east, ready-sizes .columns)) (omega (arith, r .south, ready-sizes .rows))
 
     -- a kernel of the probe's row, around the probe's column
     module _ (p : Cell) (p-is : p ≡ probe b) (km : Float) (k : Kernel) (is : k ≡ kernelOf (sheetOf g angles) (probe b .row) km) where
-      pub probe-placed : Placed g sums (rowsOf k) (p .col)
+      pub probe-placed : CanSum g sums (rowsOf k) (p .col)
       probe-placed =
           rows-placed
           (record {
             table = t .table;
             band = subst (Banded g) (sym is) (sheet-banded g angles cosines (probe b .row) km ready-order (ready-sizes .rows) probe-row);
-            runs = subst Joined (sym is) (sheet-joined g angles cosines (probe b .row) km ready-order (ready-sizes .rows) probe-row);
+            runs = subst RunsJoined (sym is) (sheet-joined g angles cosines (probe b .row) km ready-order (ready-sizes .rows) probe-row);
             on = subst (λ (x : Cell). x .col .0 < g .width) (sym p-is) probe-column;
           })
 
@@ -137,11 +137,11 @@ not-asked true false asks e f s = absurd (true≢false (sym e ∙ f))
 not-asked false plain asks e f s = absurd (true≢false (sym s))
 
 -- a block's work is the definition's, whatever the survivors before
-pub examined-is : (m : Map) (km : Float) (w : ChunkWork) (b : Block) (wide : Float) → wide ≡ wideKm (m .globe) km b → (bound : ℕ) → bound ≡ population m wide (probe b)
-    → (survives : Bool) → survives ≡ not (prunes bound (w .held)) → (people : ℕ) → (survives ≡ true → people ≡ population m km (probe b)) → (bs : List Block)
+pub examined-is : (m : Map) (km : Float) (w : ChunkWork) (b : Block) (wide : Float) → wide ≡ wideKm (m .globe) km b → (most : ℕ) → most ≡ population m wide (probe b)
+    → (survives : Bool) → survives ≡ not (prunes most (w .held)) → (people : ℕ) → (survives ≡ true → people ≡ population m km (probe b)) → (bs : List Block)
     → workOf (cond survives (evaluatedWork w b wide people) (prunedWork w b wide)) (cond survives (bs ++ b ∷ []) bs) ≡ examine m km (workOf w bs) b
-unfolding examine evaluated pruned evaluatedWork prunedWork wideBuilt exactBuilt candidate
-examined-is m km w b wide wide-is bound bound-is true s people known bs =
-    rw (← wide-is, ← bound-is, turned true (prunes bound (w .held)) s, known refl)
-examined-is m km w b wide wide-is bound bound-is false s people known bs =
-    rw (← wide-is, ← bound-is, turned false (prunes bound (w .held)) s)
+unfolding examine bound evaluated pruned evaluatedWork prunedWork wideBuilt exactBuilt candidate
+examined-is m km w b wide wide-is most most-is true s people known bs =
+    rw (← wide-is, ← most-is, turned true (prunes most (w .held)) s, known refl)
+examined-is m km w b wide wide-is most most-is false s people known bs =
+    rw (← wide-is, ← most-is, turned false (prunes most (w .held)) s)

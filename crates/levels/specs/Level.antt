@@ -1,4 +1,4 @@
--- One level of the search: its blocks by probe, cut into chunks as for four workers, each pruned or evaluated.
+-- One level of the search: its blocks in the order of their probes, in chunks for four workers, each block pruned or evaluated.
 use Prim.Native.Nat.{ℕ, _+_, _/_, min}
 use mathlib.Core.Bool.{cond, not, _&&_}
 use mathlib.Core.List.{List, [], _∷_, _++_}
@@ -9,14 +9,13 @@ use Rattle.lists.specs.Counted.{max, divCeil, one}
 use Rattle.lists.specs.Lists.{fold, each, sort, pieces}
 use Rattle.grid.specs.declared.Row.{Row}
 use Rattle.grid.specs.Map.{Map}
-use Rattle.kernel.specs.Circle.{population}
 use Rattle.blocks.specs.declared.Block.{Block}
 use Rattle.candidates.specs.declared.Held.{Held}
 use Rattle.candidates.specs.declared.Held.the-variants.{Best}
 use Rattle.levels.specs.declared.SearchStats.{SearchStats}
 use Rattle.levels.specs.declared.Tally.{Tally}
 use Rattle.blocks.specs.Block.{area, isCell, probe, byProbe}
-use Rattle.bounds.specs.Bound.{wideKm}
+use Rattle.bounds.specs.Bound.{wideKm, bound}
 use Rattle.candidates.specs.Candidate.{candidate, betterHeld, prunes}
 
 -- ---- the counts
@@ -61,7 +60,7 @@ pub record Work : Type 0 where
   pub wideRadius : Float
   pub exactRow : Row
 
--- a kernel counts as built where its row or radius differs from the one that the chunk holds
+-- a wide kernel counts as built unless the chunk holds one of its row and radius
 unfoldable pub wideBuilt : Work → Block → Float → ℕ
 wideBuilt w b wide = one (not (eqb (w .wideRow .0) (probe b .row .0) && eq (w .wideRadius) wide))
 
@@ -69,7 +68,7 @@ wideBuilt w b wide = one (not (eqb (w .wideRow .0) (probe b .row .0) && eq (w .w
 unfoldable pub exactBuilt : Work → Block → ℕ
 exactBuilt w b = one (not (eqb (w .exactRow .0) (probe b .row .0)))
 
--- a pruned block asks for no exact kernel, and leaves what is held
+-- a block is pruned: no exact kernel, and what is held stays
 unfoldable pub pruned : Work → Block → Float → Work
 pruned w b wide =
     let o = w .outcome in
@@ -103,9 +102,9 @@ evaluated m km w b wide =
 unfoldable pub examine : Map → Float → Work → Block → Work
 examine m km w b =
     let wide = wideKm (m .globe) km b in
-    cond (prunes (population m wide (probe b)) (w .outcome .held)) (pruned w b wide) (evaluated m km w b wide)
+    cond (prunes (bound m km b) (w .outcome .held)) (pruned w b wide) (evaluated m km w b wide)
 
--- a chunk starts from the best of the level before and from two kernels at row height / 2 and the plain radius, which count as built
+-- a chunk begins with what was held when its level began, and with two kernels that count as built: of the middle row and the plain radius
 unfoldable pub started : Map → Float → Held → Work
 started m km best =
     let middleRow : Row = record { 0 = m .globe .grid .height / 2 } in

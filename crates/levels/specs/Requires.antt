@@ -1,5 +1,5 @@
 -- What a level and its chunks ask: a map that has passed its questions, counts that stay small, and room for the children.
-use Prim.Native.Nat.{ℕ, _+_, _≤_, _^_}
+use Prim.Native.Nat.{ℕ, _+_, _*_, _≤_, _^_}
 use mathlib.Core.Path.{_≡_}
 use mathlib.Core.Bool.{true}
 use mathlib.Core.List.{List}
@@ -7,6 +7,7 @@ use lib.Ieee.{Float}
 use lib.ListN.{length}
 use Rattle.lists.proofs.Elements.{AllOf, total}
 use Rattle.grid.specs.declared.Grid.{Grid}
+use Rattle.grid.specs.Grid.{mostColumns, mostRows}
 use Rattle.grid.specs.Map.{globeOf}
 use Rattle.grid.specs.Questions.{sizesInRange, sheetComplete, sheetInOrder}
 use Rattle.sums.specs.Requires.{Summed}
@@ -16,9 +17,9 @@ use Rattle.blocks.specs.Requires.{Small}
 use Rattle.levels.specs.declared.ChunkWork.{ChunkWork}
 use Rattle.levels.specs.State.{weight}
 
--- the cells of the largest grid that question 1 lets pass: 180 columns, 90 rows
+-- the cells of the largest grid that question 1 lets pass
 abbrev pub mostCells : ℕ
-mostCells = 16200
+mostCells = mostColumns * mostRows
 
 -- questions 1, 5 and 6 passed, and the sums filled
 pub record Ready (g : Grid) (angles cosines : List Float) (sums : List ℕ) : Type 0 where

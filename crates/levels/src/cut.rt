@@ -1,4 +1,4 @@
-// A level: its words cut into chunks as for four workers, and the chunks' results joined in order.
+// A level: its words in chunks for four workers, and the chunks' results joined in order.
 use crate::ChunkResult;
 use crate::SearchStats;
 use crate::Tally;
@@ -74,7 +74,7 @@ fn joined(a: ChunkResult, b: ChunkResult) -> ChunkResult
 }
 
 // A level's blocks, in probe order at the front of current, chunk by chunk; their children are left at the front of following. Each chunk
-// starts from the best of the level before, never from that of the chunk before it: chunks that run side by side do not know of each
+// starts from what was held when the level began, never from what the chunk before it found: chunks side by side do not know of each
 // other, and a better circle from there would prune blocks that the original evaluates.
 pub fn level(
     grid: Grid,

@@ -21,7 +21,7 @@ ghost use Rattle.levels.specs.Level.{chunk};
 ghost use Rattle.levels.specs.State.{summedMap, startedWork, blocksFrom, Swept};
 ghost use Rattle.levels.specs.Requires.{Ready, CanSweep, ChunkWords};
 
-// A chunk starts from the best of the level before and from two kernels at the middle row and the plain radius, which count as built.
+// A chunk begins with what was held when its level began, and with two kernels that count as built: of the middle row and the plain radius.
 fn started(grid: Grid, km: f64, best: Held) -> ChunkWork
     ensures { λ r. ⌜ r ≡ startedWork grid km best ⌝ }
 {

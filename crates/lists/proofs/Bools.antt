@@ -1,7 +1,10 @@
 -- Tests as types and as equations, conjunctions, and choices by a test.
 use mathlib.Core.Path.{_≡_, refl, sym, subst}
 use mathlib.Core.Bool.{Bool, true, false, cond, not, _&&_, _||_, true≢false}
+use mathlib.Core.Logic.{_⊎_, inl, inr}
 use lib.Dec.{T}
+use mir.Val.{boolByte}
+use Rattle.lists.specs.Counted.{one}
 
 -- ---- `T b` and `b ≡ true`
 
@@ -61,6 +64,10 @@ pub or-right : (a b : Bool) → T b → T (a || b)
 or-right true b t = tt
 or-right false b t = t
 
+pub or-split : (a b : Bool) → T (a || b) → T a ⊎ T b
+or-split true b t = inl tt
+or-split false b t = inr t
+
 pub or-none : (b : Bool) → b ≡ (b || false)
 or-none true = refl
 or-none false = refl
@@ -68,6 +75,13 @@ or-none false = refl
 pub or-assoc : (p q r : Bool) → ((p || q) || r) ≡ (p || (q || r))
 or-assoc true q r = refl
 or-assoc false q r = refl
+
+-- ---- the byte of a test, as the code adds it
+
+pub byte-one : (b : Bool) → boolByte b ≡ one b
+unfolding one
+byte-one true = refl
+byte-one false = refl
 
 -- ---- choices
 

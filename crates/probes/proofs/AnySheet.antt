@@ -1,25 +1,21 @@
 -- A search on any sheet, fair or not: its centre is a cell of the grid with the people of its circle, and its counts are small.
-use Prim.Native.Nat.{ℕ, zero, suc, _+_, _*_, _^_, _≤_}
-use mathlib.Core.Path.{refl}
+use Prim.Native.Nat.{ℕ, zero, suc, _+_, _^_, _≤_}
 use mathlib.Core.List.{List, []}
 use native.Mathlib.Omega.{arith}
-use native.Mathlib.Nat.{mul-le-mul}
 use lib.Ieee.{Float}
 use Rattle.lists.proofs.Bools.{cond-case, is-true}
 use Rattle.lists.proofs.Elements.{all-map}
 use Rattle.floats.specs.Binary.{whole}
-use Rattle.grid.specs.Grid.{cell, cells}
+use Rattle.grid.specs.declared.Grid.{Grid}
 use Rattle.grid.specs.Map.{Map}
 use Rattle.grid.proofs.Sizes.{Sizes}
-use Rattle.grid.proofs.CellOrder.{of-on-grid}
+use Rattle.grid.proofs.CellOrder.{corner-on}
 use Rattle.sums.specs.Sums.{total}
-use Rattle.kernel.specs.Circle.{population}
 use Rattle.kernel.proofs.Populations.{population-total}
 use Rattle.blocks.specs.declared.Block.{Block}
 use Rattle.blocks.specs.Block.{probe, tile, Rectangle}
-use Rattle.blocks.proofs.Tiles.{probe-held}
 use Rattle.bounds.specs.declared.Spacing.{Spacing}
-use Rattle.bounds.specs.Bound.{wideKm}
+use Rattle.bounds.specs.Bound.{wideKm, bound}
 use Rattle.bounds.specs.Spacing.{spacingOf}
 use Rattle.candidates.specs.declared.Candidate.{Candidate}
 use Rattle.candidates.specs.declared.Held.{Held}
@@ -31,10 +27,11 @@ use Rattle.levels.specs.Level.{Outcome, Work, noTally, noStats, pruned, evaluat
 use Rattle.levels.specs.State.{statsWeight}
 use Rattle.levels.proofs.Rule.{Kept, level-rule}
 use Rattle.levels.proofs.Counts.{next}
-use Rattle.levels.proofs.Finds.{Circle}
+use Rattle.levels.proofs.Finds.{Circle, probe-circle}
 use Rattle.search.specs.declared.SearchResult.{SearchResult}
 use Rattle.search.specs.Search.{searched, heldOr, search}
 use Rattle.search.proofs.Levels.{after, levels-rule, Counted, counted-first, counted-next, no-fuel, Tallied}
+use Rattle.search.proofs.Places.{tallied-few}
 use Rattle.search.proofs.Search.{found, search-is, search-tallied}
 use Rattle.ledger.specs.Requires.{InBounds}
 use Rattle.probes.specs.State.{searchWeight}
@@ -47,18 +44,12 @@ module _ (m : Map) (km : Float) where
   abbrev HeldKept : ℕ → Outcome → Outcome → List Block → Type 0
   HeldKept n o p bs = OfHeld (Circle m km) (o .held) → OfHeld (Circle m km) (p .held)
 
-  probe-circle : (b : Block) → Rectangle (m .globe .grid) b → Circle m km (candidate m km (probe b))
-  unfolding candidate
-  probe-circle b r =
-      let h = probe-held (m .globe .grid) b r in
-      record { on = of-on-grid (m .globe .grid) (probe b) (record { row = omega arith; col = omega arith }); people = refl }
-
   block-held : (w : Work) (b : Block) → Rectangle (m .globe .grid) b → HeldKept 0 (w .outcome) (examine m km w b .outcome) []
   unfolding examine pruned evaluated
   block-held w b r h =
       let wide = wideKm (m .globe) km b in
-      cond-case (λ (v : Work). OfHeld (Circle m km) (v .outcome .held)) (prunes (population m wide (probe b)) (w .outcome .held)) (pruned w b wide)
-      (evaluated m km w b wide) (λ e. h) (λ e. better-of (Circle m km) (w .outcome .held) (Best (candidate m km (probe b))) h (probe-circle b r))
+      cond-case (λ (v : Work). OfHeld (Circle m km) (v .outcome .held)) (prunes (bound m km b) (w .outcome .held)) (pruned w b wide)
+      (evaluated m km w b wide) (λ e. h) (λ e. better-of (Circle m km) (w .outcome .held) (Best (candidate m km (probe b))) h (probe-circle m km b r))
 
   held-kept : (best : Held) → OfHeld (Circle m km) best → Kept m km best HeldKept
   unfolding started joined
@@ -92,34 +83,30 @@ module _ (m : Map) (km : Float) where
 
 -- ---- a search
 
+-- cell (0, 0), which is named where no circle is held
+pub corner-bounds : (g : Grid) → Sizes g → (people : ℕ) → people ≤ 2 ^ 53 → InBounds g (northWest people)
+unfolding northWest
+corner-bounds g sizes people h = record { on = is-true _ (corner-on g (sizes .some-columns) (sizes .some-rows)); exact = h }
+
 module _ (m : Map) (sizes : Sizes (m .globe .grid)) (exact : total m ≤ 2 ^ 53) where
   circle-bounds : (km : Float) (c : Candidate) → Circle m km c → InBounds (m .globe .grid) c
   circle-bounds km c k = record { on = is-true _ (k .on); exact = omega (arith, k .people, population-total m km (centreOf c)) }
 
-  corner-bounds : InBounds (m .globe .grid) (northWest 0)
-  unfolding northWest
-  corner-bounds =
-      record { on = is-true _ (of-on-grid (m .globe .grid) (cell 0 0) (record { row = omega (arith, sizes .some-rows); col = omega (arith, sizes .some-columns) })); exact = omega arith }
-
   held-bounds : (km : Float) (h : Held) → OfHeld (Circle m km) h → InBounds (m .globe .grid) (heldOr (northWest 0) h)
   unfolding heldOr
-  held-bounds km Nobody c = corner-bounds
+  held-bounds km Nobody c = corner-bounds (m .globe .grid) sizes 0 (omega arith)
   held-bounds km (Best d) c = circle-bounds km d c
 
   light : (t : Tally) → Tallied (m .globe .grid) t → statsWeight (t .stats) ≤ searchWeight
-  unfolding statsWeight cells
+  unfolding statsWeight
   light t k =
-      let area : m .globe .grid .width * m .globe .grid .height ≤ 180 * 90 = mul-le-mul (sizes .columns) (sizes .rows) in
-      let few : t .stats .levels ≤ 270 = omega (arith, k .levels-few, sizes .columns, sizes .rows) in
-      let blocks : t .stats .levels * (m .globe .grid .width * m .globe .grid .height) ≤ 270 * 16200 = mul-le-mul few area in
-      let rows : 2 * (m .globe .grid .width * m .globe .grid .height) + 8 ≤ 32408 = omega arith in
-      let kernels : t .stats .levels * (2 * (m .globe .grid .width * m .globe .grid .height) + 8) ≤ 270 * 32408 = mul-le-mul few rows in
-      omega (arith, k .either, k .examined, k .kernels)
+      let few = tallied-few (m .globe .grid) sizes t k in
+      omega (arith, few .levels, few .examined, few .pruned, few .evaluated, few .kernels)
 
   -- A SEARCH IS SOUND, whatever the sheet
   pub search-sound : (spacing : Spacing) (km : ℕ) → SearchSound (m .globe .grid) (search m spacing km)
   unfolding search noTally noStats statsWeight
-  search-sound spacing zero = record { centre = corner-bounds; light = omega arith }
+  search-sound spacing zero = record { centre = corner-bounds (m .globe .grid) sizes 0 (omega arith); light = omega arith }
   search-sound spacing (suc km) =
       let above : 1 ≤ suc km = omega arith in
       let width = sizes .some-columns in

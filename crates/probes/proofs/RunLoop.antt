@@ -6,14 +6,13 @@ use mathlib.Core.Bool.{Bool, true, false, cond, true≢false}
 use native.Mathlib.Omega.{arith}
 use lib.Ieee.{Float}
 use lib.ListN.{length}
-use Rattle.lists.proofs.Bools.{cases, is-true}
+use Rattle.lists.proofs.Bools.{cases}
 use Rattle.floats.specs.Binary.{whole}
 use Rattle.grid.specs.declared.Grid.{Grid}
-use Rattle.grid.specs.Grid.{ceiling, cell}
+use Rattle.grid.specs.Grid.{ceiling}
 use Rattle.grid.specs.Map.{Map}
 use Rattle.grid.proofs.Ceiling.{ceiling-least, ceiling-most}
 use Rattle.grid.proofs.Sizes.{Sizes, grid-sizes}
-use Rattle.grid.proofs.CellOrder.{of-on-grid}
 use Rattle.sums.specs.Sums.{total}
 use Rattle.bounds.specs.declared.Spacing.{Spacing}
 use Rattle.candidates.specs.declared.Candidate.{Candidate}
@@ -42,6 +41,7 @@ use Rattle.probes.specs.State.{runBegun, stateAfter, probeCount, radiiOf
 use Rattle.probes.specs.Requires.{CanNote, CanEvaluate, CanRun}
 use Rattle.probes.proofs.States.{starting, Tracks, tracks-begun, tracks-next}
 use Rattle.probes.proofs.Kept.{SearchSound, in-order-next}
+use Rattle.probes.proofs.AnySheet.{corner-bounds}
 use Rattle.probes.proofs.Probes.{people-exact, ready-sound, can-reuse, can-put, can-evaluate, ProbedTo}
 
 -- the kilometre below the ceiling
@@ -63,18 +63,14 @@ next-unreached cap c false e = (refl, cases (c .reached) (λ r. absurd (true≢f
 -- ---- the state at the start
 
 begun-in-order : (g : Grid) → Sizes g → (people : ℕ) → people ≤ 2 ^ 53 → (l : Ledger) → ledgerInOrder g l ≡ true → placesFree l mostRadii ≡ true → InOrder g l (runBegun people)
-unfolding runBegun noStats statsWeight radiiOf northWest
+unfolding runBegun noStats statsWeight radiiOf
 begun-in-order g sizes people exact l o r =
     record {
       ledger = o;
       room = omega (arith, places-free l mostRadii r);
       light = omega arith;
       radii = omega arith;
-      found =
-          record {
-            on = is-true _ (of-on-grid g (cell 0 0) (record { row = omega (arith, sizes .some-rows); col = omega (arith, sizes .some-columns) }));
-            exact = exact;
-          };
+      found = corner-bounds g sizes people exact;
     }
 
 -- the answer and the ledger of a run that has ended, given whether the circle is the whole grid

@@ -23,7 +23,7 @@ use Rattle.probes.specs.declared.ShortBelow.the-variants as short-case
 use Rattle.probes.specs.declared.Smallest.{Smallest}
 use Rattle.probes.specs.Probes.{targetPersons, Probe, Run, smallestRun, evaluatedIn, reusedIn, statsOf}
 
--- the probe that fell short one kilometre below the answer, else absent: a short probe further down does not tell that the answer is the smallest
+-- the short witness, a short probe right below the answer, if there was one: one further down does not tell that the answer is the smallest
 unfoldable pub shortBelow : Float → ℕ → List Probe → ShortBelow
 shortBelow persons km [] = short-case.Absent
 shortBelow persons km (p ∷ ps) =
@@ -35,7 +35,7 @@ unfoldable pub widened : Ambiguity → ℕ → Ambiguity
 widened ambiguity-case.Absent km = ambiguity-case.Radii (record { 0 = km }) (record { 0 = km }) 1
 widened (ambiguity-case.Radii low high n) km = ambiguity-case.Radii (record { 0 = min (low .0) km }) (record { 0 = max (high .0) km }) (n + 1)
 
--- the lowest and the highest kilometre and the number of probes within the slack, absent when there is none
+-- of the probes within the slack the smallest and the largest kilometre and how many they are, if there are any
 unfoldable pub ambiguity : Float → Float → List Probe → Ambiguity
 ambiguity persons slack [] = ambiguity-case.Absent
 ambiguity persons slack (p ∷ ps) =

@@ -17,13 +17,13 @@ use share::Target;
 // The most radii that a run probes, and so the places that a call asks for in its ledger.
 pub const MOST_RADII: usize = 28;
 
-// The probe that fell short one kilometre below the answer.
+// The short witness: the short probe right below the answer, if there was one.
 pub enum ShortBelow {
     Witness { km: RadiusKm, population: u64 },
     Absent,
 }
 
-// The probes whose populations the slack cannot separate from the target.
+// The probes within the slack: their smallest and largest kilometre, and how many they are.
 pub enum Ambiguity {
     Radii {
         lowest_km: RadiusKm,

@@ -9,7 +9,7 @@ ghost use Rattle.ledger.specs.Ledger.{entry};
 ghost use Rattle.probes.specs.State.{reusedMore, evaluatedMore, noted};
 ghost use Rattle.probes.specs.Requires.{CanNote, CanEvaluate};
 
-// A probe whose kilometre the ledger holds.
+// A probe that an entry of the ledger answers.
 pub(crate) fn reused(
     persons: f64,
     slack: f64,

@@ -178,7 +178,7 @@ module _ (gr : Grid) (angles cosines : List Float) (sums : List ℕ) (km : Float
             rw (outcome .counts)
             (omega (
               arith,
-              few-light (found .tally) (counted-few gr (d .fuel) (found .tally) (d .left) s (d .counted)),
+              few-light (found .tally) (counted-few gr s (found .tally) (d .fuel) (d .left) (d .counted)),
               level-light the-map km (found .held) (d .left) all (omega (arith, area-few, few-cells)),
             ))
 

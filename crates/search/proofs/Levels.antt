@@ -26,7 +26,7 @@ use Rattle.levels.specs.Level.{noTally, noStats, plus, plusStats, level}
 use Rattle.search.specs.declared.SearchResult.{SearchResult}
 use Rattle.search.specs.Search.{levels, searched}
 use Rattle.bounds.proofs.Bounds.{Bounded}
-use Rattle.grid.proofs.CellOrder.{of-on-grid}
+use Rattle.grid.proofs.CellOrder.{corner-on}
 use Rattle.candidates.proofs.Order.{_≼_, fewer, later, equal, OfHeld}
 use Rattle.blocks.proofs.Tiles.{tile-area, tile-cover, tile-rectangle, length-area}
 use Rattle.levels.proofs.Rule.{begun}
@@ -194,7 +194,7 @@ best-of m km c is all =
 held-end : (m : Map) (km : Float) (k : ℕ) (t : Tally) (h : Held) → 1 ≤ m .globe .grid .width → 1 ≤ m .globe .grid .height
     → Finding m km k (record { held = h; tally = t }) [] → HeldBest m km h
 held-end m km k t Nobody w h i =
-    absurd (empty (i .found (cell 0 0) (of-on-grid (m .globe .grid) (cell 0 0) (record { row = omega arith; col = omega arith }))))
+    absurd (empty (i .found (cell 0 0) (corner-on (m .globe .grid) w h)))
   where
     empty : ⊥ ⊎ AnyOf (λ b. Holds b (cell 0 0)) [] → ⊥
     empty (inl e) = e

@@ -15,7 +15,7 @@ use Rattle.kernel.proofs.Populations.{population-zero}
 use Rattle.bounds.specs.declared.Spacing.{Spacing}
 use Rattle.bounds.specs.Spacing.{spacingOf}
 use Rattle.bounds.proofs.Bounds.{Bounded}
-use Rattle.grid.proofs.CellOrder.{of-on-grid, Compared, first, same, second, compare, Earlier, north, west, earlier}
+use Rattle.grid.proofs.CellOrder.{corner-on, Compared, first, same, second, compare, Earlier, north, west, earlier}
 use Rattle.candidates.specs.declared.Candidate.{Candidate}
 use Rattle.candidates.specs.declared.Held.{Held}
 use Rattle.candidates.specs.declared.Held.the-variants.{Best}
@@ -51,7 +51,7 @@ north-west-first x = go (compare (cell 0 0) x)
 level-best : (g : Grid) (people : Cell → ℕ) (n : ℕ) → ((x : Cell) → people x ≡ n) → 1 ≤ g .width → 1 ≤ g .height → BestOf g people (cell 0 0)
 level-best g people n all w h =
     record {
-      on = of-on-grid g (cell 0 0) (record { row = omega arith; col = omega arith });
+      on = corner-on g w h;
       fullest = λ x t. omega (arith, all x, all (cell 0 0));
       first = λ x t e. north-west-first x;
     }

@@ -1,6 +1,6 @@
 -- The search call: what its questions have passed, what an accepted one knows at each step, and what an answer and a refusal leave.
-use Prim.Native.Nat.{ℕ, zero, suc, _<_, _^_}
-use mathlib.Core.Path.{_≡_, refl, sym, ap, _∙_}
+use Prim.Native.Nat.{ℕ, _<_, _^_}
+use mathlib.Core.Path.{_≡_, refl, ap, _∙_}
 use mathlib.Core.Bool.{true, _&&_}
 use mathlib.Core.List.{List}
 use lib.Dec.{leb}
@@ -65,9 +65,7 @@ module _ (m : Map) (spacing : Spacing) (km : ℕ) (lent : Buffers) where
   pub search-refused : (n : ℕ) → n ≡ firstNo (searchQuestions m spacing km lent) → (n ≡ 0 → ⊥)
       → record { answer = refused n; lent = record { sums = lent .sums; current = lent .current; following = lent .following } } ≡ searchCall m spacing km lent
   unfolding searchCall buffersAfter after shown
-  search-refused zero e h = absurd (h refl)
-  search-refused (suc k) e h =
-      let n = firstNo (searchQuestions m spacing km lent) in rw (decide-no n k (search m spacing km) (sym e), ← e)
+  search-refused n e h = rw (decide-no n (firstNo (searchQuestions m spacing km lent)) (search m spacing km) e h)
 
   pub search-answered : (found : MostPopulous) (sums current following : List ℕ) → firstNo (searchQuestions m spacing km lent) ≡ 0
       → found ≡ search m spacing km → sums ≡ filledSums m (lent .sums) → length current ≡ length (lent .current) → length following ≡ length (lent .following)

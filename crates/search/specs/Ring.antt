@@ -55,11 +55,11 @@ pub record RingSearches : Type 0 where
   pub accepted : firstNo (mapQuestions ring) ≡ 0
   -- the line `most`: 10,008 km, cell (0, 3), 15 people, 3 levels, 7 examined, 2 pruned, 5 evaluated, 17 kernels, 2 cells pruned, 2 settled
   pub most-line : ringSearch 10008 ≡ answered (mostPopulous 10008 (candidateOf (cell 0 3) 15) (tally (stats 3 7 2 5 17) 2 2))
-  -- radius 10,007: column 2, 7 people
+  -- at 10,007 km column 2 with 7 people
   pub at-10007 : ringSearch 10007 ≡ answered (mostPopulous 10007 (candidateOf (cell 0 2) 7) (tally (stats 3 7 3 4 17) 3 1))
-  -- radius 0: cell (0, 0), all counts 0
+  -- at 0 km cell (0, 0) with nobody, and nothing counted
   pub at-0 : ringSearch 0 ≡ answered (mostPopulous 0 (northWest 0) noTally)
-  -- radius 20,016: column 0, 16 people, examined 7, pruned 0
+  -- at 20,016 km column 0 with all 16 people, no block pruned
   pub at-20016 : ringSearch 20016 ≡ answered (mostPopulous 20016 (candidateOf (cell 0 0) 16) (tally (stats 3 7 0 7 17) 0 4))
   -- automatic spacing
   pub spacing-10007 : initialSpacing (ringGlobe .grid) (whole 10007) ≡ 3

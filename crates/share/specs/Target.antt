@@ -17,7 +17,7 @@ shareInRange share = finite share && lt (whole 0) share && le share (whole 1)
 abbrev pub targetOf : Float → ℕ → Target
 targetOf share total = record { share = share; persons = share ⊗ whole total; total = whole total }
 
--- a population reaches the target when at least as large
+-- the target is at most the population
 unfoldable pub reaches : Float → Candidate → Bool
 reaches persons c = le persons (whole (c .population))
 
@@ -28,7 +28,7 @@ predicateSlackPersons g total =
     let ulp = nextUp total ⊖ total in
     rows ⊗ whole 4 ⊗ ulp ⊕ rows ⊗ ε ⊗ total
 
--- | population − target | is at most the slack
+-- a population no further from the target than the slack
 unfoldable pub withinSlack : Float → Float → Candidate → Bool
 withinSlack persons slack c = le (absolute (whole (c .population) ⊖ persons)) slack
 

@@ -1,5 +1,5 @@
 -- The smallest-radius call: what its questions have passed, what an accepted one knows at each step, and what an answer and a refusal leave.
-use Prim.Native.Nat.{ℕ, zero, suc, _<_, _^_}
+use Prim.Native.Nat.{ℕ, _<_, _^_}
 use mathlib.Core.Path.{_≡_, refl, sym, ap, _∙_}
 use mathlib.Core.Bool.{true}
 use mathlib.Core.List.{List, _∷_}
@@ -72,9 +72,7 @@ module _ (m : Map) (spacing : Spacing) (share : Float) (l : Ledger) (lent : Buff
   pub smallest-refused : (n : ℕ) → n ≡ firstNo (smallestQuestions m spacing share l lent) → (n ≡ 0 → ⊥)
       → record { answer = refused n; ledger = l; lent = buffers (lent .sums) (lent .current) (lent .following) } ≡ smallestCall m spacing share l lent
   unfolding smallestCall buffersAfter after shown
-  smallest-refused zero e h = absurd (h refl)
-  smallest-refused (suc k) e h =
-      let n = firstNo (smallestQuestions m spacing share l lent) in rw (decide-no n k (smallest m spacing share l .answer) (sym e), ← e)
+  smallest-refused n e h = rw (decide-no n (firstNo (smallestQuestions m spacing share l lent)) (smallest m spacing share l .answer) e h)
 
   pub smallest-answered : (r : SmallestResult) (sums current following : List ℕ) → firstNo (smallestQuestions m spacing share l lent) ≡ 0
       → IsSettled (smallest m spacing share l) r → sums ≡ filledSums m (lent .sums) → length current ≡ length (lent .current) → length following ≡ length (lent .following)

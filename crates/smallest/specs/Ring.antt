@@ -44,7 +44,7 @@ pub record MarkedFacts : Type 0 where
   pub share-1 : (places : List Entry)
       → leastValues (ringSmallest ring (whole 1) places)
       ≡ answered (record { km = 20016; centre = candidateOf (cell 0 0) 16; short = shortAt 20015 15; evaluated = 16; reused = 0 })
-  -- (9) nobody, share 0.5: radius 0, no witness, 2 evaluated, ambiguity 0 to 1 with 2 radii
+  -- (9) share 0.5 of nobody: 0 km without a witness, after 2 searches; both radii, 0 and 1, are within the slack
   pub nobody-line : (places : List Entry)
       → leastValues (ringSmallest emptyRing half places)
       ≡ answered (record { km = 0; centre = candidateOf (cell 0 0) 0; short = short-case.Absent; evaluated = 2; reused = 0 })

@@ -11,7 +11,7 @@ use Rattle.grid.specs.Map.{Map}
 use Rattle.sums.specs.declared.RowBand.{RowBand}
 use Rattle.sums.specs.declared.Rows.{Rows}
 use Rattle.sums.specs.declared.ColSpan.{ColSpan}
-use Rattle.sums.specs.Sums.{rectangle, inBand, inSpan, bandPopulation, rowSpan, bandSpan}
+use Rattle.sums.specs.Sums.{rectanglePopulation, inBand, inSpan, bandPopulation, rowSpan, bandSpan}
 use Rattle.sums.proofs.Columns.{spanned, span-one-piece, span-two-pieces, within, within-turn, within-inland, within-west, within-east}
 use Rattle.sums.proofs.Laws.{people, widthOf, heightOf, one-rectangle, two-rectangles}
 
@@ -58,11 +58,11 @@ module _ (m : Map) (band : RowBand) (span : ColSpan) where
 
     -- one rectangle, or two at the seam
     pub band-plain : span .west .0 ≤ span .east .0 → span .east .0 < widthOf m
-        → bandPopulation m band span ≡ rectangle m (rowsOf band) (span .west .0) (span .east .0 + 1)
+        → bandPopulation m band span ≡ rectanglePopulation m (rowsOf band) (span .west .0) (span .east .0 + 1)
     band-plain p q = band-rows ∙ one-rectangle m (rowsOf band) _ (span .west .0) (span .east .0 + 1) (λ r. span-one-piece span (widthOf m) (people m r) p q)
 
     pub band-seam : span .east .0 < span .west .0 → span .west .0 < widthOf m
-        → bandPopulation m band span ≡ rectangle m (rowsOf band) (span .west .0) (widthOf m) + rectangle m (rowsOf band) 0 (span .east .0 + 1)
+        → bandPopulation m band span ≡ rectanglePopulation m (rowsOf band) (span .west .0) (widthOf m) + rectanglePopulation m (rowsOf band) 0 (span .east .0 + 1)
     band-seam p q =
         band-rows
         ∙ two-rectangles m (rowsOf band) _ (span .west .0) (widthOf m) 0 (span .east .0 + 1)
@@ -80,14 +80,14 @@ module _ (m : Map) (band : RowBand) (centre : Col) (half : ℕ) (ordered : band 
       (λ r p q. rw (band-south band r (omega arith) (omega arith)))
 
   -- half the width and more: every column once
-  pub around-turn : widthOf m / 2 ≤ half → bandSpan m band centre half ≡ rectangle m (rowsOf band) 0 (widthOf m)
+  pub around-turn : widthOf m / 2 ≤ half → bandSpan m band centre half ≡ rectanglePopulation m (rowsOf band) 0 (widthOf m)
   unfolding rowSpan within
   around-turn h = band-span-rows ∙ one-rectangle m (rowsOf band) _ 0 (widthOf m) (λ r. within-turn (widthOf m) (centre .0) half (people m r) h)
 
   -- less: one rectangle, or two at the seam, which lies in the west or in the east
   module _ (in-row : centre .0 < widthOf m) (short : half < widthOf m / 2) where
     pub around-inland : half ≤ centre .0 → centre .0 + half < widthOf m
-        → bandSpan m band centre half ≡ rectangle m (rowsOf band) (centre .0 - half) (centre .0 + half + 1)
+        → bandSpan m band centre half ≡ rectanglePopulation m (rowsOf band) (centre .0 - half) (centre .0 + half + 1)
     unfolding rowSpan within
     around-inland p q =
         band-span-rows
@@ -96,7 +96,7 @@ module _ (m : Map) (band : RowBand) (centre : Col) (half : ℕ) (ordered : band 
 
     pub around-west : centre .0 < half
         → bandSpan m band centre half
-        ≡ rectangle m (rowsOf band) (centre .0 + widthOf m - half) (widthOf m) + rectangle m (rowsOf band) 0 (centre .0 + half + 1)
+        ≡ rectanglePopulation m (rowsOf band) (centre .0 + widthOf m - half) (widthOf m) + rectanglePopulation m (rowsOf band) 0 (centre .0 + half + 1)
     unfolding rowSpan within
     around-west p =
         band-span-rows
@@ -105,7 +105,7 @@ module _ (m : Map) (band : RowBand) (centre : Col) (half : ℕ) (ordered : band 
 
     pub around-east : half ≤ centre .0 → widthOf m < centre .0 + half + 1
         → bandSpan m band centre half
-        ≡ rectangle m (rowsOf band) (centre .0 - half) (widthOf m) + rectangle m (rowsOf band) 0 (centre .0 + half + 1 - widthOf m)
+        ≡ rectanglePopulation m (rowsOf band) (centre .0 - half) (widthOf m) + rectanglePopulation m (rowsOf band) 0 (centre .0 + half + 1 - widthOf m)
     unfolding rowSpan within
     around-east p q =
         band-span-rows

@@ -15,7 +15,7 @@ use Rattle.grid.specs.Grid.{mostColumns, mostRows, cell}
 use Rattle.grid.specs.Map.{Map, count}
 use Rattle.sums.proofs.General.{seg-both}
 use Rattle.sums.specs.declared.Rows.{Rows}
-use Rattle.sums.specs.Sums.{corner, sumsWords, sumsWord, filledSums, total, rectangle}
+use Rattle.sums.specs.Sums.{corner, sumsWords, sumsWord, filledSums, total, rectanglePopulation}
 
 -- the people of row r at column k
 abbrev pub people : Map → ℕ → ℕ → ℕ
@@ -48,20 +48,20 @@ all-rows w h = rw (add-one h, suc-mul h (w + 1)) (add-comm (h * (w + 1)) (w + 1)
 
 module _ (m : Map) (rows : Rows) where
   -- a sum over the rows of each row's people in one piece of the columns, and in two
-  pub one-rectangle : (g : ℕ → ℕ) (f l : ℕ) → ((r : ℕ) → g r ≡ sumFrom f l (people m r)) → sumFrom (rows .north) (rows .end) g ≡ rectangle m rows f l
-  unfolding rectangle sumFrom
+  pub one-rectangle : (g : ℕ → ℕ) (f l : ℕ) → ((r : ℕ) → g r ≡ sumFrom f l (people m r)) → sumFrom (rows .north) (rows .end) g ≡ rectanglePopulation m rows f l
+  unfolding rectanglePopulation sumFrom
   one-rectangle g f l h = seg-same (rows .north) (rows .end) g (λ r. sumFrom f l (people m r)) (λ r a b. h r)
 
   pub two-rectangles : (g : ℕ → ℕ) (f l f' l' : ℕ) → ((r : ℕ) → g r ≡ sumFrom f l (people m r) + sumFrom f' l' (people m r))
-      → sumFrom (rows .north) (rows .end) g ≡ rectangle m rows f l + rectangle m rows f' l'
-  unfolding rectangle sumFrom
+      → sumFrom (rows .north) (rows .end) g ≡ rectanglePopulation m rows f l + rectanglePopulation m rows f' l'
+  unfolding rectanglePopulation sumFrom
   two-rectangles g f l f' l' h =
       let one : ℕ → ℕ = λ r. sumFrom f l (people m r) in
       let two : ℕ → ℕ = λ r. sumFrom f' l' (people m r) in
       seg-same (rows .north) (rows .end) g (λ r. one r + two r) (λ r a b. h r) ∙ seg-both (rows .north) (rows .end) one two
 
   -- cut at a column
-  pub rectangle-cut : (c l : ℕ) → c ≤ l → rectangle m rows 0 l ≡ rectangle m rows 0 c + rectangle m rows c l
+  pub rectangle-cut : (c l : ℕ) → c ≤ l → rectanglePopulation m rows 0 l ≡ rectanglePopulation m rows 0 c + rectanglePopulation m rows c l
   rectangle-cut c l h =
       let g : ℕ → ℕ = λ r. sumFrom 0 l (people m r) in
       sym (one-rectangle g 0 l (λ r. refl))
@@ -91,7 +91,7 @@ module _ (m : Map) where
   corner-cell r c = omega (arith, corner-south r (c + 1), corner-south r c, sum-plus-one c (people m r))
 
   -- rows west of a column: two corners
-  pub corner-rows : (rows : Rows) (c : ℕ) → rows .north ≤ rows .end → corner m (rows .end) c ≡ corner m (rows .north) c + rectangle m rows 0 c
+  pub corner-rows : (rows : Rows) (c : ℕ) → rows .north ≤ rows .end → corner m (rows .end) c ≡ corner m (rows .north) c + rectanglePopulation m rows 0 c
   unfolding corner
   corner-rows rows c h =
       let f : ℕ → ℕ = λ r. sumBelow c (people m r) in
@@ -110,7 +110,7 @@ module _ (m : Map) where
   corner-total r c p q = le-trans (corner-grows-south r (heightOf m) c p) (corner-grows-east (heightOf m) c (widthOf m) q)
 
   -- a rectangle has at most all people
-  pub rectangle-total : (rows : Rows) (f l : ℕ) → rows .north ≤ rows .end → rows .end ≤ heightOf m → f ≤ l → l ≤ widthOf m → rectangle m rows f l ≤ total m
+  pub rectangle-total : (rows : Rows) (f l : ℕ) → rows .north ≤ rows .end → rows .end ≤ heightOf m → f ≤ l → l ≤ widthOf m → rectanglePopulation m rows f l ≤ total m
   rectangle-total rows f l n e p q = omega (arith, rectangle-cut m rows f l p, corner-rows rows l n, corner-total (rows .end) l e q)
 
   -- ---- every count below 2 ^ 32

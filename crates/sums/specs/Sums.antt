@@ -27,7 +27,7 @@ sumsWords g = (g .height + 1) * (g .width + 1)
 unfoldable pub sumsWord : Map → ℕ → ℕ
 sumsWord m i = let stride = m .globe .grid .width + 1 in corner m (i / stride) (i % stride)
 
--- a sums buffer that starts with the prefix sums and keeps its tail
+-- a sums buffer with the prefix sums over its front; its tail is as it was
 unfoldable pub filledSums : Map → List ℕ → List ℕ
 filledSums m sums = over (sumsWord m) (sumsWords (m .globe .grid)) sums
 
@@ -40,8 +40,8 @@ unfoldable pub total : Map → ℕ
 total m = corner m (m .globe .grid .height) (m .globe .grid .width)
 
 -- the people of some rows and the columns from west to before end
-unfoldable pub rectangle : Map → Rows → ℕ → ℕ → ℕ
-rectangle m rows west end = sumBelow (rows .end - rows .north) (λ i. sumBelow (end - west) (λ k. count m (cell (rows .north + i) (west + k))))
+unfoldable pub rectanglePopulation : Map → Rows → ℕ → ℕ → ℕ
+rectanglePopulation m rows west end = sumBelow (rows .end - rows .north) (λ i. sumBelow (end - west) (λ k. count m (cell (rows .north + i) (west + k))))
 
 -- a band by its rows and a span by its columns, as a call gives them
 abbrev pub bandOf : Row → Row → RowBand
@@ -76,5 +76,5 @@ bandSpan m band centre half = sumBelow (m .globe .grid .height) (λ r. cond (inB
 
 -- opens all of the above, for facts that are computed
 unfoldable pub open-sums : Unit {0}
-unfolding corner sumsWords sumsWord filledSums sumsFit total rectangle inBand inSpan bandPopulation
+unfolding corner sumsWords sumsWord filledSums sumsFit total rectanglePopulation inBand inSpan bandPopulation
 open-sums = tt

@@ -1,4 +1,4 @@
-// The table: prefix sums of the counts in a lent buffer, and the people of bands of rows and spans of columns by four words or six.
+// Prefix sums of the counts in a lent buffer, and the people of bands of rows and spans of columns by four words or six.
 ghost use mathlib.Core.Path.{_≡_};
 ghost use Prim.Native.Nat.{_+_, _*_, _≤_};
 ghost use lib.Dec.{leb};
@@ -6,7 +6,7 @@ ghost use lib.ListN.{length};
 ghost use Rattle.lists.specs.Front.{over};
 ghost use Rattle.grid.specs.Grid.{closing};
 ghost use Rattle.sums.specs.Sums.{corner as cornerOf, sumsWord, sumsFit, filledSums, total as totalOf};
-ghost use Rattle.sums.specs.Sums.{rectangle, bandPopulation, bandSpan};
+ghost use Rattle.sums.specs.Sums.{rectanglePopulation, bandPopulation, bandSpan};
 ghost use Rattle.sums.specs.State.{countsMap, wordsThrough, tableMap};
 ghost use Rattle.sums.specs.Requires.{Fillable, RowReady, Summed, AtCorner, OnTable, InTable};
 use grid::Col;
@@ -118,7 +118,7 @@ pub fn total(grid: Grid, sums: &[u64]) -> u64
 fn strip(grid: Grid, sums: &[u64], rows: Rows, col: u32) -> u64
     requires { ⌜ Summed grid (now sums) ⌝ }
     requires { ⌜ (rows .north ≤ rows .end) × (rows .end ≤ grid .height) × (col ≤ grid .width) ⌝ }
-    ensures { λ r. ⌜ r ≡ rectangle (tableMap grid (now (sums .entry))) rows 0 col ⌝ }
+    ensures { λ r. ⌜ r ≡ rectanglePopulation (tableMap grid (now (sums .entry))) rows 0 col ⌝ }
 {
     let below = corner(grid, sums, rows.end, col);
     let above = corner(grid, sums, rows.north, col);
@@ -129,7 +129,7 @@ fn strip(grid: Grid, sums: &[u64], rows: Rows, col: u32) -> u64
 fn inland(grid: Grid, sums: &[u64], rows: Rows, west: u32, end: u32) -> u64
     requires { ⌜ Summed grid (now sums) ⌝ }
     requires { ⌜ (rows .north ≤ rows .end) × (rows .end ≤ grid .height) × (west ≤ end) × (end ≤ grid .width) ⌝ }
-    ensures { λ r. ⌜ r ≡ rectangle (tableMap grid (now (sums .entry))) rows west end ⌝ }
+    ensures { λ r. ⌜ r ≡ rectanglePopulation (tableMap grid (now (sums .entry))) rows west end ⌝ }
 {
     strip(grid, sums, rows, end) - strip(grid, sums, rows, west)
 }
@@ -139,7 +139,8 @@ fn inland(grid: Grid, sums: &[u64], rows: Rows, west: u32, end: u32) -> u64
 fn across(grid: Grid, sums: &[u64], rows: Rows, west: u32, end: u32) -> u64
     requires { ⌜ Summed grid (now sums) ⌝ }
     requires { ⌜ (rows .north ≤ rows .end) × (rows .end ≤ grid .height) × (west ≤ grid .width) × (end ≤ grid .width) ⌝ }
-    ensures { λ r. let m = tableMap grid (now (sums .entry)) in ⌜ r ≡ rectangle m rows west (grid .width) + rectangle m rows 0 end ⌝ }
+    ensures { λ r. let m = tableMap grid (now (sums .entry)) in
+        ⌜ r ≡ rectanglePopulation m rows west (grid .width) + rectanglePopulation m rows 0 end ⌝ }
 {
     inland(grid, sums, rows, west, grid.width) + strip(grid, sums, rows, end)
 }

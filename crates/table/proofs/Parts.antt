@@ -1,7 +1,9 @@
--- What the walks over a table share, beside the rules of crate `walks`.
---     tableVal, gridVal, sumsVal       the machine values of a table, of its grid and of its sums.        TableT, SumsT        the types, at a lifetime.        Tok      the lifetime's token
---     apart, joined    what a table owns beside R is what its grid and its sums own, and R, as a function's entry has it;  and what the two own is what the table owns
---     tableLaw, gridLaw, sumsLaw       the laws of the parameters' types
+-- What the walks over a table share, beside the rules of crate `hand_proofs`.
+--     tableVal, gridVal, sumsVal  the machine values of a table, of its grid and of its sums
+--     TableT, SumsT               the types, at a lifetime
+--     Tok                         the lifetime's token
+--     apart, joined               what a table owns beside R is what its grid and its sums own, and R, as a function's entry has it;  and what the two own is what the table owns
+--     tableLaw, gridLaw, sumsLaw  the laws of the parameters' types
 -- Assumes `Given`.
 use lib.ListN.{length}
 use base.Logic.{monoL, monoR}

@@ -1,4 +1,4 @@
-// A table: the grid together with the lent sums. Its functions take it apart and call those of crate `sums`.
+// A table: a grid and the slice of its sums. Its functions take it apart and call those of crate `sums`.
 ghost use mathlib.Core.Path.{_≡_};
 ghost use Rattle.sums.specs.Sums.{bandOf, spanOf, total, bandPopulation};
 ghost use Rattle.sums.specs.State.{tableMap};

@@ -1,6 +1,6 @@
 -- Words of a line and of a buffer: those at its front, and those stored from a place on.
 use Prim.Native.Nat.{ℕ, suc, _+_, _≤_, _<_, min}
-use mathlib.Core.Path.{_≡_, refl, sym, ap, _∙_}
+use mathlib.Core.Path.{_≡_, sym, ap, _∙_}
 use mathlib.Core.Bool.{Bool, true, false, not}
 use mathlib.Core.List.{List, [], _∷_, _++_}
 use native.Mathlib.Nat.{min-eq-left, min-eq-right, min-le-right, add-zero, add-suc, suc-add, le-of-lt}
@@ -11,8 +11,7 @@ use lib.ListN.{length, take, drop, getD, set, drop-of-length-le, List·getD-eq-d
 use lib.Seq.{length-take-le, take-all, take-length, take-suc, sets, drop-length}
 use borrow.Author.Tests.{leb-true, leb-false}
 use mir.Val.{boolByte}
-use Rattle.lists.specs.Counted.{one}
-use Rattle.lists.proofs.Bools.{cases}
+use Rattle.lists.proofs.Bools.{cases, byte-one}
 use Rattle.lists.proofs.Sums.{sum-none, sum-plus-one}
 use Rattle.test_cases.specs.Numbers.{numberAt, differing}
 
@@ -55,11 +54,6 @@ module _ {A : Type 0} where
 
 -- ---- words that differ
 
-as-number : (b : Bool) → boolByte b ≡ one b
-unfolding one
-as-number true = refl
-as-number false = refl
-
 pub at-most-one : (b : Bool) → boolByte b ≤ 1
 at-most-one true = omega arith
 at-most-one false = omega arith
@@ -72,4 +66,4 @@ module _ (a : List ℕ) (i : ℕ) (b : List ℕ) (j : ℕ) where
   pub differing-more : (k count x y : ℕ) → x ≡ numberAt a (i + k) → y ≡ numberAt b (j + k) → count ≡ differing a i b j k
       → count + boolByte (not (eqb x y)) ≡ differing a i b j (k + 1)
   unfolding differing
-  differing-more k count x y p q e = rw (p, q, e, as-number) (sym (sum-plus-one k _))
+  differing-more k count x y p q e = rw (p, q, e, byte-one) (sym (sum-plus-one k _))

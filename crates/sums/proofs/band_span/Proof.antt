@@ -15,12 +15,18 @@ use Rattle.sums.proofs.band_span.Tie as tie
 abbrev M : tie.Start → Map
 M s = tableMap (s .args .grid) (now (s .args .sums))
 
--- the decision
-turn : (c : tie.Then1) → let a = c .before .before .before .before .args in a .grid .width / 2 ≤ a .half
+-- from the decision to the start, and from the columns of a band that is no full turn to the decision
+abbrev start : tie.After-full-turn → tie.Start
+start f = f .before .before .before
+
+abbrev parted : tie.After-struct-known3 → tie.Else1
+parted k = k .before .before
+
+turn : (c : tie.Then1) → let a = start (c .before) .args in a .grid .width / 2 ≤ a .half
 unfolding closing
 turn c = leb-true _ _ (sym (c .before .full-turn .ensures) ∙ c .if1 .taken)
 
-short : (c : tie.Else1) → let a = c .before .before .before .before .args in a .half < a .grid .width / 2
+short : (c : tie.Else1) → let a = start (c .before) .args in a .half < a .grid .width / 2
 unfolding closing
 short c = leb-false _ _ (sym (c .before .full-turn .ensures) ∙ c .if1 .left)
 
@@ -35,7 +41,7 @@ strip-requires c κs = search needs
 
 returns : tie.Need-returns
 returns c =
-    let s = c .before .before .before .before .before in
+    let s = start (c .before .before) in
     let a = s .args in
     rw (c .strip .ensures) (sym (around-turn (M s) (a .band) (a .centre) (a .half) (s .pre .1 .ordered) (s .pre .1 .south) (turn (c .before))))
 
@@ -56,8 +62,8 @@ across-requires c κs = let less = short (c .before .before .before .before) in 
 
 returns-2 : tie.Need-returns-2
 returns-2 c =
-    let less = c .before .before .before .before .before in
-    let s = less .before .before .before .before in
+    let less = parted (c .before .before .before) in
+    let s = start (less .before) in
     let a = s .args in
     let on = s .pre .1 in
     rw (c .across .ensures)
@@ -71,8 +77,8 @@ across-requires-2 c κs = search needs
 
 returns-3 : tie.Need-returns-3
 returns-3 c =
-    let less = c .before .before .before .before .before .before in
-    let s = less .before .before .before .before in
+    let less = parted (c .before .before .before .before) in
+    let s = start (less .before) in
     let a = s .args in
     let on = s .pre .1 in
     rw (c .across2 .ensures)
@@ -83,8 +89,8 @@ inland-requires c κs = search needs
 
 returns-4 : tie.Need-returns-4
 returns-4 c =
-    let less = c .before .before .before .before .before .before in
-    let s = less .before .before .before .before in
+    let less = parted (c .before .before .before .before) in
+    let s = start (less .before) in
     let a = s .args in
     let on = s .pre .1 in
     rw (c .inland .ensures)

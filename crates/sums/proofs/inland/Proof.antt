@@ -3,7 +3,7 @@ use mathlib.Core.Path.{_≡_}
 use Prim.Native.Nat.{_+_}
 use native.Mathlib.Omega.{arith}
 use denote.Ref.{now}
-use Rattle.sums.specs.Sums.{rectangle}
+use Rattle.sums.specs.Sums.{rectanglePopulation}
 use Rattle.sums.specs.State.{tableMap}
 use Rattle.sums.proofs.Laws.{rectangle-cut}
 use borrow.Author.Needs.{needs}
@@ -11,7 +11,7 @@ use Rattle.sums.proofs.inland.Statement.{statement}
 use Rattle.sums.proofs.inland.Tie as tie
 
 apart : (c : tie.After-strip2) → let a = c .before .before .before .args in
-    c .before .strip .result ≡ c .strip2 .result + rectangle (tableMap (a .grid) (now (a .sums))) (a .rows) (a .west) (a .end)
+    c .before .strip .result ≡ c .strip2 .result + rectanglePopulation (tableMap (a .grid) (now (a .sums))) (a .rows) (a .west) (a .end)
 apart c =
     let s = c .before .before .before in
     let a = s .args in

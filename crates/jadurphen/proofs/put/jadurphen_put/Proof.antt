@@ -4,6 +4,13 @@ use borrow.Author.Needs.{needs}
 use Rattle.jadurphen.proofs.put.jadurphen_put.Statement.{statement}
 use Rattle.jadurphen.proofs.put.jadurphen_put.Tie as tie
 
+-- the ledger and the centre that the call was given
+abbrev read : tie.After-put-entry → tie.After-ledger-of
+read p = p .before
+
+abbrev made : tie.After-put-entry → tie.After-at
+made p = read p .before .before
+
 at-requires : tie.Need-at-requires
 at-requires c κs = search needs
 
@@ -19,7 +26,7 @@ enum-told c = search needs
 write-ledger-requires : tie.Need-write-ledger-requires
 write-ledger-requires c κs =
     let call = c .before .before .before in
-    put-fits _ _ _ _ _ (call .before .before .before .at .ensures) _ (call .before .ledger-of .ensures) _ _ (call .put-entry .ensures) (c .before .enum-told .given .1)
+    put-fits _ _ _ _ _ (made call .at .ensures) _ (read call .ledger-of .ensures) _ _ (call .put-entry .ensures) (c .before .enum-told .given .1)
 
 enum-known-answer : tie.Need-enum-known-answer
 enum-known-answer c = search needs
@@ -31,7 +38,7 @@ returns : tie.Need-returns
 returns c =
     let told = c .before .before .before .before in
     let call = told .before .before in
-    put-done _ _ _ _ _ (call .before .before .before .at .ensures) _ (call .before .ledger-of .ensures) _ _ _ (call .put-entry .ensures) (told .enum-told .given .1)
+    put-done _ _ _ _ _ (made call .at .ensures) _ (read call .ledger-of .ensures) _ _ _ (call .put-entry .ensures) (told .enum-told .given .1)
     (c .before .before .write-ledger .ensures)
 
 same-length-2 : tie.Need-same-length-2
@@ -40,7 +47,7 @@ same-length-2 c = search needs
 returns-2 : tie.Need-returns-2
 returns-2 c =
     let call = c .before .before .before in
-    put-refused _ _ _ _ _ (call .before .before .before .at .ensures) _ (call .before .ledger-of .ensures) _ _ _ (call .put-entry .ensures) (c .before .answer .given .1)
+    put-refused _ _ _ _ _ (made call .at .ensures) _ (read call .ledger-of .ensures) _ _ _ (call .put-entry .ensures) (c .before .answer .given .1)
 
 pub jadurphen-put-spec : {M : Type 1} → statement M
 jadurphen-put-spec =

@@ -2,10 +2,11 @@
 use Rattle.job_world.specs.World.{angleOn, withMap, withAngle}
 use Rattle.job_world.specs.State.{jobMap, worldOf}
 use Rattle.job_step.specs.Apply.{inWorld, first}
-use mathlib.Core.Path.{refl, sym, _∙_}
+use mathlib.Core.Path.{refl, _∙_}
 use borrow.Author.Tests.{not-true, not-false}
 use Rattle.job_step.proofs.Commands.{goneOn, too-early, off-grid, on-grid}
 use Rattle.job_commands.specs.declared.Command.the-variants.{SetAngle}
+use Rattle.grid.proofs.General.{said-no, said-yes}
 use borrow.Author.Needs.{needs}
 use Rattle.job_step.proofs.change.set_angle.Statement.{statement}
 use Rattle.job_step.proofs.change.set_angle.Tie as tie
@@ -37,7 +38,7 @@ returns-2 c =
     let offset = start .args .offset in
     c .refuse2 .ensures ∙ off-grid state (SetAngle centre row offset (start .args .angle)) (angleOn (state .grid) centre row offset)
     (withMap (worldOf state) (withAngle (jobMap state) centre row offset (start .args .angle))) refl
-    (not-false _ (asked .before .before .if1 .left)) (sym (asked .angle-on .ensures) ∙ not-true _ (c .before .if2 .taken))
+    (not-false _ (asked .before .before .if1 .left)) (said-no (asked .angle-on .ensures) (c .before .if2 .taken))
 
 with-angle-requires : tie.Need-with-angle-requires
 with-angle-requires c κs = search needs
@@ -60,7 +61,7 @@ returns-3 c =
     let offset = start .args .offset in
     c .go-on .ensures ∙ on-grid state (SetAngle centre row offset (start .args .angle)) (angleOn (state .grid) centre row offset)
     (withMap (worldOf state) (withAngle (jobMap state) centre row offset (start .args .angle))) (with-angle .result) (c .before .blank .result) refl
-    (not-false _ (asked .before .before .if1 .left)) (sym (asked .angle-on .ensures) ∙ not-false _ (c .before .before .before .if2 .left))
+    (not-false _ (asked .before .before .if1 .left)) (said-yes (asked .angle-on .ensures) (c .before .before .before .if2 .left))
     (with-angle .ensures) (c .before .blank .ensures .0)
 
 pub set-angle-spec : {M : Type 1} → statement M

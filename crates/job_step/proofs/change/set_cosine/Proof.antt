@@ -2,10 +2,11 @@
 use Rattle.job_world.specs.World.{rowOn, withMap, withCosine}
 use Rattle.job_world.specs.State.{jobMap, worldOf}
 use Rattle.job_step.specs.Apply.{inWorld, first}
-use mathlib.Core.Path.{refl, sym, _∙_}
+use mathlib.Core.Path.{refl, _∙_}
 use borrow.Author.Tests.{not-true, not-false}
 use Rattle.job_step.proofs.Commands.{goneOn, too-early, off-grid, on-grid}
 use Rattle.job_commands.specs.declared.Command.the-variants.{SetCosine}
+use Rattle.grid.proofs.General.{said-no, said-yes}
 use borrow.Author.Needs.{needs}
 use Rattle.job_step.proofs.change.set_cosine.Statement.{statement}
 use Rattle.job_step.proofs.change.set_cosine.Tie as tie
@@ -34,7 +35,7 @@ returns-2 c =
     let row = start .args .row in
     c .refuse2 .ensures ∙ off-grid state (SetCosine row (start .args .cosine)) (rowOn (state .grid) row)
     (withMap (worldOf state) (withCosine (jobMap state) row (start .args .cosine))) refl (not-false _ (asked .before .before .if1 .left))
-    (sym (asked .row-on .ensures) ∙ not-true _ (c .before .if2 .taken))
+    (said-no (asked .row-on .ensures) (c .before .if2 .taken))
 
 with-cosine-requires : tie.Need-with-cosine-requires
 with-cosine-requires c κs = search needs
@@ -55,7 +56,7 @@ returns-3 c =
     let row = start .args .row in
     c .go-on .ensures ∙ on-grid state (SetCosine row (start .args .cosine)) (rowOn (state .grid) row)
     (withMap (worldOf state) (withCosine (jobMap state) row (start .args .cosine))) (with-cosine .result) (c .before .blank .result) refl
-    (not-false _ (asked .before .before .if1 .left)) (sym (asked .row-on .ensures) ∙ not-false _ (c .before .before .before .if2 .left))
+    (not-false _ (asked .before .before .if1 .left)) (said-yes (asked .row-on .ensures) (c .before .before .before .if2 .left))
     (with-cosine .ensures) (c .before .blank .ensures .0)
 
 pub set-cosine-spec : {M : Type 1} → statement M

@@ -3,10 +3,11 @@ use Rattle.grid.specs.Grid.{onGrid}
 use Rattle.job_world.specs.World.{withMap, withCount}
 use Rattle.job_world.specs.State.{jobMap, worldOf}
 use Rattle.job_step.specs.Apply.{inWorld, first}
-use mathlib.Core.Path.{refl, sym, _∙_}
+use mathlib.Core.Path.{refl, _∙_}
 use borrow.Author.Tests.{not-true, not-false}
 use Rattle.job_step.proofs.Commands.{goneOn, too-early, off-grid, on-grid}
 use Rattle.job_commands.specs.declared.Command.the-variants.{SetCount}
+use Rattle.grid.proofs.General.{said-no, said-yes}
 use borrow.Author.Needs.{needs}
 use Rattle.job_step.proofs.change.set_count.Statement.{statement}
 use Rattle.job_step.proofs.change.set_count.Tie as tie
@@ -35,7 +36,7 @@ returns-2 c =
     let cell = start .args .cell in
     c .refuse2 .ensures ∙ off-grid state (SetCount cell (start .args .count)) (onGrid (state .grid) cell)
     (withMap (worldOf state) (withCount (jobMap state) cell (start .args .count))) refl (not-false _ (asked .before .before .if1 .left))
-    (sym (asked .on-grid .ensures) ∙ not-true _ (c .before .if2 .taken))
+    (said-no (asked .on-grid .ensures) (c .before .if2 .taken))
 
 with-count-requires : tie.Need-with-count-requires
 with-count-requires c κs = search needs
@@ -56,7 +57,7 @@ returns-3 c =
     let cell = start .args .cell in
     c .go-on .ensures ∙ on-grid state (SetCount cell (start .args .count)) (onGrid (state .grid) cell)
     (withMap (worldOf state) (withCount (jobMap state) cell (start .args .count))) (with-count .result) (c .before .blank .result) refl
-    (not-false _ (asked .before .before .if1 .left)) (sym (asked .on-grid .ensures) ∙ not-false _ (c .before .before .before .if2 .left))
+    (not-false _ (asked .before .before .if1 .left)) (said-yes (asked .on-grid .ensures) (c .before .before .before .if2 .left))
     (with-count .ensures) (c .before .blank .ensures .0)
 
 pub set-count-spec : {M : Type 1} → statement M

@@ -1,9 +1,9 @@
 -- G by its branches: a second one, too large, refused by questions 1 to 3, done.
-use mathlib.Core.Path.{_≡_, sym, _∙_}
+use mathlib.Core.Path.{_≡_, _∙_}
 use mathlib.Core.Bool.{true}
-use borrow.Author.Tests.{not-true, not-false}
 use Rattle.job_world.specs.World.{sizeTaken}
 use Rattle.job_step.proofs.Commands.{goneOn, second-grid, grid-large, grid-refused, grid-begins}
+use Rattle.grid.proofs.General.{said-no, said-yes}
 use borrow.Author.Needs.{needs}
 use Rattle.job_step.proofs.change.set_grid.Statement.{statement}
 use Rattle.job_step.proofs.change.set_grid.Tie as tie
@@ -13,7 +13,7 @@ abbrev start : tie.After-grid-refusal → tie.Start
 start c = c .before .before .before .before
 
 taken : (c : tie.After-grid-refusal) → sizeTaken (start c .args .grid) ≡ true
-taken c = sym (c .before .before .size-taken .ensures) ∙ not-false _ (c .before .if2 .left)
+taken c = said-yes (c .before .before .size-taken .ensures) (c .before .if2 .left)
 
 refuse-requires : tie.Need-refuse-requires
 refuse-requires c κs = search needs
@@ -33,7 +33,7 @@ returns-2 : tie.Need-returns-2
 returns-2 c =
     let st = c .before .before .before .before in
     c .refuse2 .ensures ∙ grid-large (st .args .state) (st .args .grid) (c .before .before .before .if1 .left)
-    (sym (c .before .before .size-taken .ensures) ∙ not-true _ (c .before .if2 .taken))
+    (said-no (c .before .before .size-taken .ensures) (c .before .if2 .taken))
 
 grid-refusal-requires : tie.Need-grid-refusal-requires
 grid-refusal-requires c κs = search needs

@@ -16,9 +16,12 @@ circle-refusal-requires c κs = search needs
 same-length : tie.Need-same-length
 same-length c = search needs
 
--- once the questions are put
+-- once the questions are put: what is known of the counts, and the start
+abbrev counted : tie.After-circle-refusal → tie.After-shared-slice-known
+counted q = q .before .before .before .before .before
+
 abbrev start : tie.After-circle-refusal → tie.Start
-start q = q .before .before .before .before .before .before
+start q = counted q .before
 
 abbrev given : tie.Start → Map
 given st = lentMap (st .args .grid) (now (st .args .counts)) (now (st .args .angles)) (now (st .args .cosines))
@@ -26,16 +29,19 @@ given st = lentMap (st .args .grid) (now (st .args .counts)) (now (st .args .ang
 returns : tie.Need-returns
 unfolding circleAnswer
 returns c =
-    let asked = c .before .circle-refusal in
+    let told = c .before .circle-refusal in
     let st = start (c .before) in
-    circle-refused (given st) (now (st .args .sums)) (st .args .km) (st .args .centre) (asked .result) (asked .ensures) (c .if1 .taken)
+    circle-refused (given st) (now (st .args .sums)) (st .args .km) (st .args .centre) (told .result) (told .ensures) (c .if1 .taken)
 
 -- past the questions, with the sums filled, and with the kernel built
 passed : (e : tie.Else1) → let st = start (e .before) in CirclePassed (given st) (now (st .args .sums)) (st .args .km) (st .args .centre)
 passed e = circle-passed _ _ _ _ (sym (e .before .circle-refusal .ensures) ∙ e .if1 .left)
 
-abbrev filled : tie.After-build → tie.After-fill-sums
-filled b = b .before .before .before .before
+abbrev asked : tie.After-fill-sums → tie.Else1
+asked f = f .before .before
+
+abbrev filled : tie.After-row-known → tie.After-fill-sums
+filled r = r .before .before .before
 
 abbrev built : tie.After-circle-population-arg3 → tie.After-build
 built c = c .before .before .before .before
@@ -47,15 +53,14 @@ int-to-float-build : tie.Need-int-to-float-build
 int-to-float-build c = search needs
 
 build-requires : tie.Need-build-requires
-build-requires c κs = to-build (passed (c .before .before .before .before .before))
+build-requires c κs = to-build (passed (asked (filled c)))
 
 circle-population-requires : tie.Need-circle-population-requires
 circle-population-requires c κs =
     let b = built c in
-    let f = filled b in
-    let e = f .before .before in
-    let counts = e .before .before .before .before .before .before .shared-slice-known in
-    rows-placed (to-sum (passed e) _ (f .fill-sums .ensures) _ (b .build .ensures) (λ i. counts .given i .fits))
+    let f = filled (b .before) in
+    let e = asked f in
+    rows-placed (to-sum (passed e) _ (f .fill-sums .ensures) _ (b .build .ensures) (λ i. counted (e .before) .shared-slice-known .given i .fits))
 
 same-length-2 : tie.Need-same-length-2
 same-length-2 c = search needs
@@ -64,8 +69,8 @@ returns-2 : tie.Need-returns-2
 unfolding circleAnswer
 returns-2 c =
     let b = built (c .before) in
-    let f = filled b in
-    let e = f .before .before in
+    let f = filled (b .before) in
+    let e = asked f in
     circle-answered _ _ _ _ _ _ (sym (e .before .circle-refusal .ensures) ∙ e .if1 .left)
     (c .circle-population .ensures ∙ rows-people _ (b .build .result) _ ∙ summed-up (passed e) _ (f .fill-sums .ensures) _ (b .build .ensures))
     (sums-filled (passed e) _ (f .fill-sums .ensures) _ (b .build .ensures))

@@ -20,6 +20,13 @@ Inv-loop reach closing height r₀ r = (r ≤ height) × (height ≤ rowPlaces) 
 abbrev μ-loop : tie.MeasureT-loop
 μ-loop reach closing height r₀ r = height - r
 
+-- from the loop to half a turn, and to the start
+abbrev half : tie.At-loop Inv-loop μ-loop → tie.After-closing Inv-loop μ-loop
+half h = h .before .before
+
+abbrev start : tie.At-loop Inv-loop μ-loop → tie.Start Inv-loop μ-loop
+start h = half h .before .before
+
 closing-requires : tie.Need-closing-requires Inv-loop μ-loop
 closing-requires c κs = search needs
 
@@ -50,20 +57,19 @@ loop-again c =
 
 returns : tie.Need-returns Inv-loop μ-loop
 returns c =
-    let st = c .before .before .before .before .before .before .before in
-    let a = st .args in
-    let half = c .before .before .before .before .before .closing in
-    covers-no (a .grid) (st .pre) (a .kernel) (half .result) (half .ensures) (c .before .before .before .loop .r)
+    let h = c .before .before .before in
+    let st = start h in
+    let closing = half h .closing in
+    covers-no (st .args .grid) (st .pre) (st .args .kernel) (closing .result) (closing .ensures) (h .loop .r)
     (c .before .before .loop-test .taken) (sym (c .before .full-turn .ensures) ∙ c .if1 .left)
 
 returns-2 : tie.Need-returns-2 Inv-loop μ-loop
 returns-2 c =
-    let st = c .before .before .before .before .before in
-    let a = st .args in
-    let half = c .before .before .before .closing in
-    let at = c .before .loop in
-    let end : at .r ≡ a .grid .height = omega arith in
-    covers-yes (a .grid) (st .pre) (a .kernel) (half .result) (half .ensures) (rw end at (at .inv .2))
+    let h = c .before in
+    let st = start h in
+    let closing = half h .closing in
+    let end : h .loop .r ≡ st .args .grid .height = omega arith in
+    covers-yes (st .args .grid) (st .pre) (st .args .kernel) (closing .result) (closing .ensures) (rw end at (h .loop .inv .2))
 
 pub covers-spec : {M : Type 1} → statement M
 covers-spec =

@@ -18,6 +18,13 @@ Inv-loop grid angles centre limit guess₀ reaches₀ north₀ guess reaches nor
 abbrev μ-loop : tie.MeasureT-loop
 μ-loop grid angles centre limit guess₀ reaches₀ north₀ guess reaches north = north
 
+-- from a row's reach to the turn, and from there to the start
+abbrev head : tie.After-reach-of Inv-loop μ-loop → tie.At-loop Inv-loop μ-loop
+head r = r .before .before
+
+abbrev start : tie.At-loop Inv-loop μ-loop → tie.Start Inv-loop μ-loop
+start h = h .before .before .before
+
 loop-holds : tie.Need-loop-holds Inv-loop μ-loop
 loop-holds c = (refl, filled-none _ _)
 
@@ -27,7 +34,7 @@ sub-t10 c = search needs
 reach-of-requires : tie.Need-reach-of-requires Inv-loop μ-loop
 reach-of-requires c κs =
     let l = c .before .loop in
-    let st = c .before .before .before .before in
+    let st = start (c .before) in
     record { sheet = st .pre .0 .sheet; centre-on = st .pre .0 .on; row-on = omega (arith, l .inv .1 .ordered, st .pre .0 .on) }
 
 same-length : tie.Need-same-length Inv-loop μ-loop
@@ -35,7 +42,7 @@ same-length c = search needs
 
 returns : tie.Need-returns Inv-loop μ-loop
 returns c =
-    let l = c .before .before .before .loop in
+    let l = head (c .before) .loop in
     record { rows = l .inv .1; missed = λ h. sym (c .before .reach-of .ensures) ∙ c .if1 .taken }
 
 sub-north : tie.Need-sub-north Inv-loop μ-loop
@@ -46,8 +53,9 @@ cast-reaches c = search needs
 
 slice-write-reaches : tie.Need-slice-write-reaches Inv-loop μ-loop
 slice-write-reaches c =
-    let l = c .before .before .before .loop in
-    let st = c .before .before .before .before .before .before in
+    let h = head (c .before) in
+    let l = h .loop in
+    let st = start h in
     omega (arith, l .inv .1 .ordered, st .pre .0 .on, sheet-high (st .pre .0 .sheet))
 
 loop-less : tie.Need-loop-less Inv-loop μ-loop
@@ -55,8 +63,9 @@ loop-less c = search needs
 
 loop-again : tie.Need-loop-again Inv-loop μ-loop
 loop-again c =
-    let l = c .before .before .before .loop in
-    let st = c .before .before .before .before .before .before in
+    let h = head (c .before) in
+    let l = h .loop in
+    let st = start h in
     let n = c .before .reach-of in
     let room : l .north - 1 < length (l .reaches) = omega (arith, l .inv .1 .ordered, st .pre .0 .on, sheet-high (st .pre .0 .sheet)) in
     (simp length-set (l .inv .0), filled-before (l .inv .1) (l .north - 1) (n .result) room (n .ensures) (omega arith) (omega arith))

@@ -18,12 +18,19 @@ Inv-loop grid angles centre limit guess₀ reaches₀ end₀ guess reaches end =
 abbrev μ-loop : tie.MeasureT-loop
 μ-loop grid angles centre limit guess₀ reaches₀ end₀ guess reaches end = grid .height - end
 
+-- from a row's reach to the turn, and from there to the start
+abbrev head : tie.After-reach-of Inv-loop μ-loop → tie.At-loop Inv-loop μ-loop
+head r = r .before .before .before
+
+abbrev start : tie.At-loop Inv-loop μ-loop → tie.Start Inv-loop μ-loop
+start h = h .before .before .before
+
 loop-holds : tie.Need-loop-holds Inv-loop μ-loop
 loop-holds c = let st = c .before .before in (refl, omega (arith, st .pre .0 .on), filled-none _ _)
 
 reach-of-requires : tie.Need-reach-of-requires Inv-loop μ-loop
 reach-of-requires c κs =
-    let st = c .before .before .before .before .before in
+    let st = start (c .before .before) in
     record { sheet = st .pre .0 .sheet; centre-on = st .pre .0 .on; row-on = omega arith }
 
 same-length : tie.Need-same-length Inv-loop μ-loop
@@ -31,7 +38,7 @@ same-length c = search needs
 
 returns : tie.Need-returns Inv-loop μ-loop
 returns c =
-    let l = c .before .before .before .before .loop in
+    let l = head (c .before) .loop in
     record { rows = l .inv .2; on = l .inv .1; missed = λ h. sym (c .before .reach-of .ensures) ∙ c .if2 .taken }
 
 cast-reaches : tie.Need-cast-reaches Inv-loop μ-loop
@@ -39,7 +46,7 @@ cast-reaches c = search needs
 
 slice-write-reaches : tie.Need-slice-write-reaches Inv-loop μ-loop
 slice-write-reaches c =
-    let st = c .before .before .before .before .before .before .before in
+    let st = start (head (c .before)) in
     omega (arith, sheet-high (st .pre .0 .sheet))
 
 add-end : tie.Need-add-end Inv-loop μ-loop
@@ -50,10 +57,10 @@ loop-less c = search needs
 
 loop-again : tie.Need-loop-again Inv-loop μ-loop
 loop-again c =
-    let l = c .before .before .before .before .loop in
-    let st = c .before .before .before .before .before .before .before in
+    let h = head (c .before) in
+    let l = h .loop in
     let n = c .before .reach-of in
-    let room : l .end < length (l .reaches) = omega (arith, sheet-high (st .pre .0 .sheet)) in
+    let room : l .end < length (l .reaches) = omega (arith, sheet-high (start h .pre .0 .sheet)) in
     (simp length-set (l .inv .0), omega arith, filled-after (l .inv .2) (l .end) (n .result) room (n .ensures) (omega arith) refl)
 
 same-length-2 : tie.Need-same-length-2 Inv-loop μ-loop

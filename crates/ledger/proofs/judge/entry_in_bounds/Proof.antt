@@ -10,6 +10,9 @@ use Rattle.ledger.proofs.judge.entry_in_bounds.Statement.{statement}
 use Rattle.ledger.proofs.judge.entry_in_bounds.Tie as tie
 
 -- past the ceiling
+abbrev past : tie.After-on-grid → tie.Else1
+past g = g .before .before .before .before
+
 below : (e : tie.Else1) → ltb (e .before .before .args .entry .km .0) (ceiling (e .before .before .args .grid)) ≡ true
 below e = sym (e .before .below-ceiling .ensures) ∙ not-false _ (e .if1 .left)
 
@@ -25,11 +28,11 @@ on-grid-requires c κs = search needs
 
 returns-2 : tie.Need-returns-2
 unfolding entryInBounds
-returns-2 c = rw (below (c .before .before .before .before .before), sym (c .before .on-grid .ensures) ∙ not-true _ (c .if2 .taken))
+returns-2 c = rw (below (past (c .before)), sym (c .before .on-grid .ensures) ∙ not-true _ (c .if2 .taken))
 
 returns-3 : tie.Need-returns-3
 unfolding entryInBounds
-returns-3 c = rw (below (c .before .before .before .before .before .before), sym (c .before .before .on-grid .ensures) ∙ not-false _ (c .before .if2 .left))
+returns-3 c = rw (below (past (c .before .before)), sym (c .before .before .on-grid .ensures) ∙ not-false _ (c .before .if2 .left))
 
 pub entry-in-bounds-spec : {M : Type 1} → statement M
 entry-in-bounds-spec =

@@ -36,9 +36,12 @@ head r = r .before .before .before
 abbrev told : tie.After-radius Inv-loop μ-loop → tie.Start Inv-loop μ-loop
 told r = start (head r .before)
 
--- a turn that has searched
+-- a turn that has searched, and one that has its entry
 abbrev turn : tie.After-search-at Inv-loop μ-loop → tie.After-radius Inv-loop μ-loop
 turn s = s .before .before .before .before .before .before
+
+abbrev searched : tie.After-entry-of Inv-loop μ-loop → tie.After-search-at Inv-loop μ-loop
+searched e = e .before .before .before .before .before
 
 opened : (r : tie.After-radius Inv-loop μ-loop) → bracketClosed (head r .loop .bracket) ≡ false
 opened r = sym (r .before .before .closed .ensures) ∙ not-true _ (r .before .if1 .taken)
@@ -87,12 +90,12 @@ entry-of-requires c κs = search needs
 
 put-requires : tie.Need-put-requires Inv-loop μ-loop
 put-requires c κs =
-    let r = turn (c .before .before .before .before .before) in
+    let r = turn (searched c) in
     loop-puts (told r .pre) (told r .args .spacing) (head r .loop .inv .0) (opened r) (c .entry-of .result)
 
 evaluated-requires : tie.Need-evaluated-requires Inv-loop μ-loop
 evaluated-requires c κs =
-    let s = c .before .before .before .before .before .before in
+    let s = searched (c .before) in
     let r = turn s in
     loop-evaluates (told r .pre) (told r .args .spacing) (head r .loop .inv .0) (opened r) (r .radius .result) (s .search-at .ensures)
 

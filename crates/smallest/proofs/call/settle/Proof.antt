@@ -4,12 +4,15 @@ use Rattle.smallest.proofs.SmallestCalls.{can-run, can-conclude, is-set
 use Rattle.smallest.proofs.call.settle.Statement.{statement}
 use Rattle.smallest.proofs.call.settle.Tie as tie
 
--- from where the slack is known to what was told, and from where the run has ended to the slack
+-- from where the slack is known to what was told, from where the run has ended to the slack, and from its end's parts to the run
 abbrev start : tie.After-predicate-slack-persons → tie.Start
 start k = k .before .before .before .before .before .before .before .before
 
 abbrev known : tie.After-run → tie.After-predicate-slack-persons
 known r = r .before .before .before
+
+abbrev ended : tie.After-state → tie.After-run
+ended s = s .before .before .before .before .before .before
 
 total-requires : tie.Need-total-requires
 total-requires c κs = search needs
@@ -27,7 +30,7 @@ run-requires c κs =
 
 conclude-requires : tie.Need-conclude-requires
 conclude-requires c κs =
-    let r = c .before .before .before .before .before .before in
+    let r = ended c in
     let k = known r in
     can-conclude (start k .pre) (start k .args .spacing) (k .before .before .total .ensures) (k .before .target-of .ensures) (k .predicate-slack-persons .ensures) (r .run .ensures)
 
@@ -39,7 +42,7 @@ same-length-2 c = search needs
 
 returns : tie.Need-returns
 returns c =
-    let r = c .before .before .before .before .before .before .before .before in
+    let r = ended (c .before .before) in
     let k = known r in
     is-settled (start k .pre) (start k .args .spacing) (k .before .before .total .ensures) (k .before .target-of .ensures) (k .predicate-slack-persons .ensures) (r .run .ensures)
     (c .before .conclude .ensures)

@@ -7,20 +7,18 @@ use Rattle.test_cases.proofs.Fronts.{Lent, lent-arrays, smallest-back}
 use Rattle.test_cases.proofs.calls.smallest.Statement.{statement}
 use Rattle.test_cases.proofs.calls.smallest.Tie as tie
 
--- the call
+-- the words lent of each buffer, the arrays lent, and the call
+abbrev start : tie.After-least3 → tie.Start
+start l = l .before .before .before .before .before .before .before .before .before .before .before
+
+abbrev lent : tie.After-first-floats2 → tie.After-least3
+lent a = a .before .before .before
+
+abbrev arrays : tie.After-jadurphen-smallest → tie.After-first-floats2
+arrays j = j .before .before .before .before .before .before .before
+
 abbrev call : tie.After-slice-known8 → tie.After-jadurphen-smallest
 call c = c .before .before .before .before .before .before .before .before
-
--- the arrays lent
-abbrev arrays : tie.After-slice-known8 → tie.After-first-floats2
-arrays c = call c .before .before .before .before .before .before .before
-
-abbrev start : tie.After-slice-known8 → tie.Start
-start c = arrays c .before .before .before .before .before .before .before .before .before .before .before .before .before .before
-
--- the words lent of each buffer
-abbrev lent : tie.After-slice-known8 → tie.After-least3
-lent c = arrays c .before .before .before
 
 least-requires : tie.Need-least-requires
 least-requires c κs = search needs
@@ -44,19 +42,19 @@ slice-relend-prefix-jadurphen-smallest : tie.Need-slice-relend-prefix-jadurphen-
 slice-relend-prefix-jadurphen-smallest c = search needs
 
 slice-aggregate-jadurphen-smallest : tie.Need-slice-aggregate-jadurphen-smallest
-slice-aggregate-jadurphen-smallest c = front-count _ _ _ (c .before .before .before .before .before .before .before .least .ensures)
+slice-aggregate-jadurphen-smallest c = front-count _ _ _ (lent (c .before .before) .before .before .least .ensures)
 
 slice-relend-prefix-jadurphen-smallest-2 : tie.Need-slice-relend-prefix-jadurphen-smallest-2
 slice-relend-prefix-jadurphen-smallest-2 c = search needs
 
 slice-aggregate-jadurphen-smallest-2 : tie.Need-slice-aggregate-jadurphen-smallest-2
-slice-aggregate-jadurphen-smallest-2 c = front-count _ _ _ (c .before .before .before .before .before .before .before .least2 .ensures)
+slice-aggregate-jadurphen-smallest-2 c = front-count _ _ _ (lent (c .before .before .before) .before .least2 .ensures)
 
 slice-relend-prefix-jadurphen-smallest-3 : tie.Need-slice-relend-prefix-jadurphen-smallest-3
 slice-relend-prefix-jadurphen-smallest-3 c = search needs
 
 slice-aggregate-jadurphen-smallest-3 : tie.Need-slice-aggregate-jadurphen-smallest-3
-slice-aggregate-jadurphen-smallest-3 c = front-count _ _ _ (c .before .before .before .before .before .before .before .least3 .ensures)
+slice-aggregate-jadurphen-smallest-3 c = front-count _ _ _ (lent (c .before .before .before .before) .least3 .ensures)
 
 jadurphen-smallest-requires : tie.Need-jadurphen-smallest-requires
 jadurphen-smallest-requires c κs = search needs
@@ -75,10 +73,11 @@ same-length-4 c = search needs
 
 returns : tie.Need-returns
 returns c =
-    let a = arrays c in
-    let s = start c .args in
+    let a = arrays (call c) in
+    let l = lent a in
+    let s = start l .args in
     let b : Buffers = record { sums = now (s .sums); current = now (s .current); following = now (s .following) } in
-    let e : Lent (s .map) b _ _ _ = record { sums = lent c .before .before .least .ensures; current = lent c .before .least2 .ensures; following = lent c .least3 .ensures } in
+    let e : Lent (s .map) b _ _ _ = record { sums = l .before .before .least .ensures; current = l .before .least2 .ensures; following = l .least3 .ensures } in
     smallest-back (s .map) _ _ (lent-arrays (s .map) (now (s .counts)) _ (now (s .angles)) (now (s .cosines)) _ _ (a .before .before .first-shorts .ensures) (a .before .first-floats .ensures) (a .first-floats2 .ensures))
     b _ _ _ e _ _ _ _ _ _ (search needs) (search needs) _ _ _ _ _ _ _ (call c .jadurphen-smallest .ensures)
 
