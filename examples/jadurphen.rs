@@ -277,7 +277,7 @@ pub struct Smallest {
     pub persons: f64,
     pub total: f64,
     pub share_achieved: f64,
-    /// Kilometre and population of the probe that fell short one kilometre below.
+    /// Kilometre and population of the short probe right below the answer.
     pub short_below: Option<(u32, u64)>,
     pub covers_whole_grid: bool,
     pub predicate_slack_persons: f64,

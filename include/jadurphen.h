@@ -67,23 +67,23 @@ extern "C" {
 
 enum jadurphen_refusal {
     JADURPHEN_ANSWERED = 0,
-    JADURPHEN_SIZE = 1,         /* width 1 to 180 and height 1 to 90? */
+    JADURPHEN_SIZE = 1,         /* 1 to 180 columns, 1 to 90 rows? */
     JADURPHEN_LATITUDES = 2,    /* origin and both steps finite, lat_step not 0, and the origin and the far edge,
                                    origin_lat + height * lat_step, within 90 + 1e-9 of 0? */
     JADURPHEN_LONGITUDES = 3,   /* width * |lon_step| within 1e-9 of 360? */
     JADURPHEN_COUNTS = 4,       /* exactly jadurphen_counts_len counts? */
     JADURPHEN_SHEET_LENGTH = 5, /* exactly jadurphen_angles_len angles and jadurphen_cosines_len cosines? */
-    JADURPHEN_SHEET = 6,        /* every cosine above 0 and at most 1; every angle from 0 to 3.141592653589793; a row's
-                                   angle to itself at k = 0 equal to 0; angles not falling as k grows; angles at k = 0
-                                   not falling as the row moves away from the centre row? */
+    JADURPHEN_SHEET = 6,        /* 0 < cosine <= 1; 0 <= angle <= 3.141592653589793; at k = 0 a row at angle 0 from itself;
+                                   along a row no angle below the one at k - 1; at k = 0 none below that of the next row
+                                   towards the centre row? */
     JADURPHEN_BUFFERS = 7,      /* sums, current and following long enough? */
     JADURPHEN_RADIUS = 8,       /* km 0 to 20016, and the cell of a single circle on the grid? */
-    JADURPHEN_SHARE = 9,        /* share finite, above 0 and at most 1? */
+    JADURPHEN_SHARE = 9,        /* 0 < share <= 1? */
     JADURPHEN_SPACING = 10,     /* automatic, or spacing above 0? */
     JADURPHEN_LEDGER = 11,      /* 2049 words; kilometre, row and column of every place of 32 bits; at most 512
                                    entries, their kilometres strictly rising and at most 20015, their cells on the
                                    grid, their populations at most 2^53; the same of an entry to be put? */
-    JADURPHEN_LEDGER_FULL = 12  /* 28 places free for a smallest radius, one for a put of a new kilometre? */
+    JADURPHEN_LEDGER_FULL = 12  /* room for 28 entries more in a smallest radius, for a put's if its kilometre is new? */
 };
 
 /* A refusal in a few words. */

@@ -14,7 +14,7 @@ ONE = bits_of(1.0)
 
 
 class World:
-    """Angles and cosines are kept as bits; unset counts and angles are 0, cosines 1."""
+    """Angles and cosines are kept as bits. What is not set is 0, a cosine 1."""
 
     def __init__(self, width, height, origin, lon_step, lat_step):
         self.width, self.height = width, height
@@ -66,7 +66,7 @@ class World:
         return commands + [("A", *place, new) for place, new, old in zip(places, angles, self.angles) if new != old]
 
     def circle(self, km, row, col):
-        """The cells of a circle: those whose angle, at the column distance around the ring, is at most the radius's."""
+        """The cells of a circle: their angle, by rows and distance around the ring, does not exceed the radius's."""
         self.cell(row, col)
         reach = min(km / EARTH_RADIUS_KM, HALF_TURN)
         cells = set()

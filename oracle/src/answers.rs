@@ -222,7 +222,7 @@ fn check(seed: u64, maps: u64) -> ExitCode {
     }
 }
 
-/// The fullest of all cells' circles, ties to the first row, then column.
+/// The best circle by a scan of all cells: most people, then the first by row and column.
 fn best_circle(map: &Map, sheet: &Sheet, km: u32) -> Centre {
     let mut best: Option<Centre> = None;
     for row in 0..map.height {

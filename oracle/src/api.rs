@@ -30,7 +30,7 @@ impl Map {
     }
 }
 
-/// The angle for centre row c, row r and offset k stands at `(c * height + r) * (closing + 1) + k`.
+/// Angles by centre row, row and offset: those of c, r and k at `(c * height + r) * (closing + 1) + k`.
 #[derive(Debug, Clone, PartialEq)]
 pub struct Sheet {
     pub angles: Vec<f64>,
