@@ -33,6 +33,9 @@ pub record Board : Type 0 where
   pub angles : List Float
   pub cosines : List Float
 
+abbrev pub board : Map → List ℕ → List Float → List Float → Board
+board m counts angles cosines = record { map = m; counts = counts; angles = angles; cosines = cosines }
+
 -- every place overwritten, by the line's last number where the line has none
 abbrev pub shortsOf : List ℕ → List ℕ → List ℕ
 shortsOf line shorts = over (λ i. shortOf (orLast line i)) (length shorts) shorts
@@ -51,7 +54,7 @@ boardSet x tag line =
     let counts = sized (m .grid) n (m .angles) (m .cosines) in
     let angles = sized (m .grid) (m .counts) n (m .cosines) in
     let cosines = sized (m .grid) (m .counts) (m .angles) n in
-    cond (eqb tag 71) (record { map = grid; counts = x .counts; angles = x .angles; cosines = x .cosines })
-    (cond (eqb tag 67) (record { map = counts; counts = shortsOf line (x .counts); angles = x .angles; cosines = x .cosines })
-    (cond (eqb tag 65) (record { map = angles; counts = x .counts; angles = floatsOf line (x .angles); cosines = x .cosines })
-    (cond (eqb tag 75) (record { map = cosines; counts = x .counts; angles = x .angles; cosines = floatsOf line (x .cosines) }) x)))
+    cond (eqb tag 71) (board grid (x .counts) (x .angles) (x .cosines))
+    (cond (eqb tag 67) (board counts (shortsOf line (x .counts)) (x .angles) (x .cosines))
+    (cond (eqb tag 65) (board angles (x .counts) (floatsOf line (x .angles)) (x .cosines))
+    (cond (eqb tag 75) (board cosines (x .counts) (x .angles) (floatsOf line (x .cosines))) x)))

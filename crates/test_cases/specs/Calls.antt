@@ -42,6 +42,15 @@ shownFront number n words = shownBy number (take n words) ++ drop n words
 abbrev pub boardLeft : Map → ℕ → List ℕ → List ℕ → List ℕ → Buffers
 boardLeft m number sums current following = buffers sums (shownFront number (m .current) current) (shownFront number (m .following) following)
 
+-- what a search and a smallest radius returned and left: number and values, sums and the two level buffers
+abbrev pub searchLeft : Map → ℕ → List ℕ → Float → List ℕ → List ℕ → List ℕ → SearchCrossing
+searchLeft m number words tolerance sums current following =
+    record { number = number; words = words; tolerance = tolerance; lent = boardLeft m number sums current following }
+
+abbrev pub smallestLeft : Map → ℕ → List ℕ → List ℕ → List Float → List ℕ → List ℕ → List ℕ → SmallestCrossing
+smallestLeft m number ledger words floats sums current following =
+    record { number = number; ledger = ledger; words = words; floats = floats; lent = boardLeft m number sums current following }
+
 -- a single circle of a map; asked are kilometre, row and column
 unfoldable pub circlePlayed : Map → grid-map.Map → List ℕ → List ℕ → ℕ → CircleCrossing
 circlePlayed m lent asked sums population =

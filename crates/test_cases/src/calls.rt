@@ -5,7 +5,7 @@ use crate::numbers;
 ghost use mathlib.Core.Path.{_≡_};
 ghost use Rattle.search.specs.Call.{buffers};
 ghost use Rattle.jadurphen.specs.Calls.{circleReturned};
-ghost use Rattle.test_cases.specs.Calls.{lentOf, boardLeft, circlePlayed, searchPlayed, smallestPlayed};
+ghost use Rattle.test_cases.specs.Calls.{lentOf, searchLeft, smallestLeft, circlePlayed, searchPlayed, smallestPlayed};
 
 // A single circle; asked are kilometre, row and column.
 pub fn circle(
@@ -55,12 +55,8 @@ pub fn search(
     answer: &mut [u64; 10],
     tolerance: &mut f64,
 ) -> u32
-    ensures { λ r. ⌜ record {
-      number = r;
-      words = now (answer .exit);
-      tolerance = now (tolerance .exit);
-      lent = boardLeft map r (now (sums .exit)) (now (current .exit)) (now (following .exit));
-    } ≡ searchPlayed map (lentOf map (now (counts .entry)) (now (angles .entry)) (now (cosines .entry))) automatic spacing km
+    ensures { λ r. ⌜ searchLeft map r (now (answer .exit)) (now (tolerance .exit)) (now (sums .exit)) (now (current .exit)) (now (following .exit))
+        ≡ searchPlayed map (lentOf map (now (counts .entry)) (now (angles .entry)) (now (cosines .entry))) automatic spacing km
         (buffers (now (sums .entry)) (now (current .entry)) (now (following .entry)))
         (now (answer .entry)) (now (tolerance .entry)) ⌝ }
 {
@@ -104,13 +100,9 @@ pub fn smallest(
     answer: &mut [u64; 19],
     floats: &mut [f64; 6],
 ) -> u32
-    ensures { λ r. ⌜ record {
-      number = r;
-      ledger = now (ledger .exit);
-      words = now (answer .exit);
-      floats = now (floats .exit);
-      lent = boardLeft map r (now (sums .exit)) (now (current .exit)) (now (following .exit));
-    } ≡ smallestPlayed map (lentOf map (now (counts .entry)) (now (angles .entry)) (now (cosines .entry))) automatic spacing share
+    ensures { λ r. ⌜ smallestLeft map r (now (ledger .exit)) (now (answer .exit)) (now (floats .exit))
+        (now (sums .exit)) (now (current .exit)) (now (following .exit))
+        ≡ smallestPlayed map (lentOf map (now (counts .entry)) (now (angles .entry)) (now (cosines .entry))) automatic spacing share
         (now (ledger .entry)) (buffers (now (sums .entry)) (now (current .entry)) (now (following .entry)))
         (now (answer .entry)) (now (floats .entry)) ⌝ }
 {

@@ -3,7 +3,7 @@ use crate::numbers;
 use grid::Grid;
 ghost use mathlib.Core.Path.{_≡_};
 ghost use lib.Seq.{sets};
-ghost use Rattle.test_cases.specs.Board.{gridOf, noMap, shortsOf, floatsOf, boardSet};
+ghost use Rattle.test_cases.specs.Board.{gridOf, noMap, shortsOf, floatsOf, board, boardSet};
 
 // The grid, and how much of each array a call is lent: of counts, angles and cosines as many as were listed last. The words
 // filled are those of the sums that an answer fills, for who looks at them.
@@ -93,9 +93,8 @@ pub fn set(
     angles: &mut [f64],
     cosines: &mut [f64],
 ) -> Map
-    ensures { λ r. ⌜ record { map = r; counts = now (counts .exit); angles = now (angles .exit); cosines = now (cosines .exit) }
-        ≡ boardSet (record { map = map; counts = now (counts .entry); angles = now (angles .entry); cosines = now (cosines .entry) })
-        tag (now (line .entry)) ⌝ }
+    ensures { λ r. ⌜ board r (now (counts .exit)) (now (angles .exit)) (now (cosines .exit))
+        ≡ boardSet (board map (now (counts .entry)) (now (angles .entry)) (now (cosines .entry))) tag (now (line .entry)) ⌝ }
 {
     let mut out = map;
     if tag == b'G' {
