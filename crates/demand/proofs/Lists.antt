@@ -10,7 +10,7 @@ use Rattle.lists.proofs.Bools.{is-true, of-true, or-none, or-assoc}
 use Rattle.grid.specs.Grid.{ceiling}
 use Rattle.grid.specs.Map.{Map}
 use Rattle.grid.specs.Answer.{Question, question, firstNo, Answer, answered, refused, decide, after}
-use Rattle.grid.proofs.Answers.{all-yes, after-map, decide-yes, decide-no, not-answered}
+use Rattle.grid.proofs.Answers.{yes-to, after-map, decide-yes, decide-no, not-answered}
 use Rattle.bounds.specs.declared.Spacing.{Spacing}
 use Rattle.bounds.specs.Spacing.{spacingGiven}
 use Rattle.candidates.specs.declared.Candidate.{Candidate}
@@ -127,9 +127,9 @@ module _ (m : Map) (a : Accepted m) (l : Ledger) (c : Call) where
     where
       by : (n : ℕ) → firstNo (asked m l c) ≡ n → CallDone m l c
       by zero e =
-          let passed = all-yes (asked m l c) refl e .1 .1 in
-          answered-done s (passed .1 .0) (judged s ∙ decide-yes _ _ e)
-          (smallest-right m a (c .spacing) (c .share) l (s .best) (searched (c .spacing) (of-true _ (passed .0))))
+          let said = yes-to (asked m l c) refl e in
+          answered-done s (said 12 .0) (judged s ∙ decide-yes _ _ e)
+          (smallest-right m a (c .spacing) (c .share) l (s .best) (searched (c .spacing) (of-true _ (said 10 .0))))
       by (suc k) e = refused-done s (suc k) (judged s ∙ decide-no (suc k) _ _ (sym e) (λ z. omega (arith, z)))
 
 -- ---- the list

@@ -7,7 +7,7 @@ use Rattle.lists.proofs.Bools.{is-true, of-true}
 use Rattle.grid.specs.Grid.{ceiling}
 use Rattle.grid.specs.Map.{Map}
 use Rattle.grid.specs.Answer.{firstNo, answered, decide}
-use Rattle.grid.proofs.Answers.{all-yes, yes-all, after-map, decide-yes, decided-yes}
+use Rattle.grid.proofs.Answers.{yes-all, yes-to, after-map, decide-yes, decided-yes}
 use Rattle.kernel.specs.Call.{radiusInRange}
 use Rattle.bounds.specs.declared.Spacing.{Spacing}
 use Rattle.bounds.specs.Spacing.{spacingGiven}
@@ -37,4 +37,4 @@ module _ (m : Map) (a : Accepted m) where
   search-answered km spacing lent f e =
       let own = searchOwn (m .globe .grid) spacing km lent in
       let was = decided-yes (firstNo own) (search m spacing km) f (sym e ∙ own-decide km spacing lent) in
-      (of-true _ (all-yes own refl (was .0) .1 .1 .0), was .1)
+      (of-true _ (yes-to own refl (was .0) 10 .0), was .1)

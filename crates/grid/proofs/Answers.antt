@@ -4,7 +4,7 @@ use mathlib.Core.Path.{_≡_, refl, sym, _∙_}
 use mathlib.Core.Bool.{Bool, true, false, cond, _&&_}
 use mathlib.Core.List.{List, [], _∷_, _++_}
 use native.Mathlib.Omega.{arith}
-use lib.Dec.{ltb}
+use lib.Dec.{ltb, eqb}
 use borrow.Author.Tests.{ltb-true}
 use Rattle.lists.proofs.Bools.{and-left, and-right}
 use Rattle.grid.specs.declared.Grid.{Grid}
@@ -43,7 +43,7 @@ pub yes-all : (qs : List Question) → AllYes qs → 0 ≡ firstNo qs
 yes-all [] ys = asked-none
 yes-all (q ∷ qs) ys = asked-yes (q .number) qs (ys .0) (yes-all qs (ys .1))
 
-pub all-yes : (qs : List Question) → numbered qs ≡ true → firstNo qs ≡ 0 → AllYes qs
+all-yes : (qs : List Question) → numbered qs ≡ true → firstNo qs ≡ 0 → AllYes qs
 unfolding firstNo
 all-yes [] h e = tt
 all-yes (q ∷ qs) h e = go (q .yes) (all-yes qs (and-right (ltb 0 (q .number)) (numbered qs) h)) e
@@ -51,6 +51,26 @@ all-yes (q ∷ qs) h e = go (q .yes) (all-yes qs (and-right (ltb 0 (q .number)) 
     go : (b : Bool) → (firstNo qs ≡ 0 → AllYes qs) → cond b (firstNo qs) (q .number) ≡ 0 → (b ≡ true) × AllYes qs
     go true more z = (refl, more z)
     go false more z = absurd (omega (arith, z, ltb-true 0 (q .number) (and-left (ltb 0 (q .number)) (numbered qs) h)))
+
+-- the questions of one number are answered "yes", in their order: a question that joins the list moves no other
+abbrev Also : Bool → Bool → Type 0 → Type 0
+Also true said rest = (said ≡ true) × rest
+Also false said rest = rest
+
+abbrev pub Yes : ℕ → List Question → Type 0
+Yes n [] = Unit {0}
+Yes n (q ∷ qs) = Also (eqb n (q .number)) (q .yes) (Yes n qs)
+
+pub yes-to : (qs : List Question) → numbered qs ≡ true → firstNo qs ≡ 0 → (n : ℕ) → Yes n qs
+yes-to qs h e n = go qs (all-yes qs h e)
+  where
+    go : (qs : List Question) → AllYes qs → Yes n qs
+    go [] ys = tt
+    go (q ∷ qs) ys = by (eqb n (q .number)) (go qs (ys .1))
+      where
+        by : (b : Bool) → Yes n qs → Also b (q .yes) (Yes n qs)
+        by true more = (ys .0, more)
+        by false more = more
 
 -- one list after another: a refusal by the first stands, and without one the second decides
 module _ (ps qs : List Question) where
@@ -101,7 +121,7 @@ pub record PassedGrid (g : Grid) : Type 0 where
 module _ (g : Grid) where
   pub grid-passed : firstNo (gridQuestions g) ≡ 0 → PassedGrid g
   unfolding gridQuestions
-  grid-passed e = let ys = all-yes (gridQuestions g) refl e in record { sizes = ys .0; latitudes = ys .1 .0; columns = ys .1 .1 .0 }
+  grid-passed e = let said = yes-to (gridQuestions g) refl e in record { sizes = said 1 .0; latitudes = said 2 .0; columns = said 3 .0 }
 
   -- what is asked after the grid's questions
   module _ (own : List Question) where
@@ -109,10 +129,10 @@ module _ (g : Grid) where
     unfolding gridQuestions
     after-grid = asked-after (gridQuestions g) own refl
 
-    pub grid-then : numbered own ≡ true → firstNo (gridQuestions g ++ own) ≡ 0 → PassedGrid g × AllYes own
+    pub grid-then : numbered own ≡ true → firstNo (gridQuestions g ++ own) ≡ 0 → PassedGrid g × ((n : ℕ) → Yes n own)
     grid-then h e =
         let none = none-before (gridQuestions g) own e in
-        (grid-passed none, all-yes own h (after-grid none refl ∙ e))
+        (grid-passed none, yes-to own h (after-grid none refl ∙ e))
 
 -- ---- the map's questions, and what an accepted map has passed
 
@@ -127,7 +147,7 @@ module _ (m : Map) where
   unfolding mapQuestions sheetQuestions
   map-passed e =
       let all = grid-then (m .globe .grid) (question 4 (countsComplete m) ∷ sheetQuestions (m .globe)) refl e in
-      record { grid = all .0; counts = all .1 .0; sheet = all .1 .1 .0; order = all .1 .1 .1 .0 }
+      record { grid = all .0; counts = all .1 4 .0; sheet = all .1 5 .0; order = all .1 6 .0 }
 
   -- what is asked after the map's questions
   module _ (own : List Question) where
@@ -135,10 +155,15 @@ module _ (m : Map) where
     unfolding mapQuestions gridQuestions sheetQuestions
     after-map = asked-after (mapQuestions m) own refl
 
-    pub map-then : numbered own ≡ true → firstNo (mapQuestions m ++ own) ≡ 0 → Passed m × AllYes own
+    -- what an accepted call on a map has passed: the map's questions, and its own by their numbers
+    pub record PassedCall : Type 0 where
+      pub map : Passed m
+      pub yes : (n : ℕ) → Yes n own
+
+    pub map-then : numbered own ≡ true → firstNo (mapQuestions m ++ own) ≡ 0 → PassedCall
     map-then h e =
         let none = none-before (mapQuestions m) own e in
-        (map-passed none, all-yes own h (after-map none refl ∙ e))
+        record { map = map-passed none; yes = yes-to own h (after-map none refl ∙ e) }
 
 -- ---- what a decision leaves
 

@@ -26,7 +26,7 @@ use Rattle.smallest.specs.declared.SmallestAnswer.the-variants as smallest-answ
 use Rattle.probes.specs.Smallest.{smallest}
 use Rattle.probes.specs.Probes.{mostRadii}
 use Rattle.smallest.specs.Call.{SmallestOutcome, smallestQuestions, smallestCall, smallestAnswer}
-use Rattle.smallest.proofs.SmallestCalls.{smallest-passed}
+use Rattle.smallest.proofs.SmallestCalls.{smallest-passed, room-left}
 use Rattle.words.specs.Words.{ledgerLength, wordAt, ledgerOf, ledgerWords}
 use Rattle.jadurphen.specs.Crossing.{numberOf, written}
 use Rattle.jadurphen.specs.Smallest.{shortWords, ambiguityWords, smallestWords, smallestFloats, smallestReturned, smallestCrossed, smallestCrossing}
@@ -74,7 +74,7 @@ module _ (m : Map) (spacing : Spacing) (share : Float) (ledger : List ℕ) (lent
   unfolding smallestAnswer
   smallest-fits a gave is =
       let none = decided-yes (firstNo (smallestQuestions m side share l lent)) (smallest m side share l .answer) a (rw is at (answered-by gave)) in
-      let free = places-free l mostRadii (smallest-passed m side share l lent (none .0) .own .room) in
+      let free = places-free l mostRadii (room-left m side share l lent (smallest-passed m side share l lent (none .0))) in
       let counted : l .len ≤ capacity = omega (arith, free) in
       fits-length ledger (counted-fits ledger (rw read at counted))
 

@@ -1,30 +1,31 @@
 -- What an accepted single-circle call knows at each of its steps.
 use Prim.Native.Nat.{ℕ, _<_, _^_}
-use mathlib.Core.Path.{_≡_, _∙_}
+use mathlib.Core.Path.{_≡_}
 use mathlib.Core.List.{List}
 use lib.ListN.{getD}
 use Rattle.lists.proofs.Bools.{of-true}
 use Rattle.floats.specs.Binary.{whole}
 use Rattle.grid.specs.declared.Cell.{Cell}
 use Rattle.grid.specs.Map.{Map, sheetOf}
+use Rattle.grid.proofs.Answers.{PassedCall}
 use Rattle.grid.proofs.CellOrder.{On, on-grid}
 use Rattle.sums.specs.Sums.{filledSums}
 use Rattle.sums.specs.State.{countsMap, tableMap}
 use Rattle.sums.specs.Requires.{Fillable}
-use Rattle.sums.proofs.Tables.{fillable, bare-filled, table-map, summed}
+use Rattle.sums.proofs.Tables.{fillable, table-map, summed}
 use Rattle.kernel.specs.declared.Kernel.{Kernel}
+use Rattle.kernel.specs.Call.{circleOwn}
 use Rattle.kernel.specs.Circle.{population}
 use Rattle.kernel.specs.Kernel.{kernelOf, kernelPopulation}
 use Rattle.kernel.specs.Requires.{OnSheet, CanSum}
 use Rattle.kernel.proofs.Placing.{on-sheet, placed, circle-people}
-use Rattle.kernel.proofs.Calls.{CirclePassed}
 
-module _ {m : Map} {sums : List ℕ} {km : ℕ} {centre : Cell} (p : CirclePassed m sums km centre) where
+module _ (m : Map) (sums : List ℕ) (km : ℕ) (centre : Cell) (p : PassedCall m (circleOwn (m .globe .grid) sums km centre)) where
   pub to-fill : Fillable (m .globe .grid) (m .counts) sums
-  to-fill = fillable m sums (p .map .grid .sizes) (p .map .counts) (p .fit)
+  to-fill = fillable m sums (p .map .grid .sizes) (p .map .counts) (p .yes 7 .0)
 
   centre-on : On (m .globe .grid) centre
-  centre-on = on-grid (m .globe .grid) centre (of-true _ (p .on))
+  centre-on = on-grid (m .globe .grid) centre (of-true _ (p .yes 8 .1 .0))
 
   pub to-build : OnSheet (m .globe .grid) (m .globe .angles) (centre .row)
   to-build = on-sheet m (p .map) (centre .row) (centre-on .row)
@@ -41,6 +42,3 @@ module _ {m : Map} {sums : List ℕ} {km : ℕ} {centre : Cell} (p : CirclePasse
     summed-up =
         circle-people m (p .map) (centre .row) (centre-on .row) (whole km) (centre .col) last k is
         (table-map (m .globe .grid) (m .counts) sums last to-fill filled)
-
-    pub sums-filled : last ≡ filledSums m sums
-    sums-filled = filled ∙ bare-filled m sums

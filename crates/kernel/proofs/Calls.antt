@@ -1,33 +1,22 @@
 -- The single-circle call: what its questions have passed, and what an answer and a refusal leave.
 use Prim.Native.Nat.{ℕ}
 use mathlib.Core.Path.{_≡_, refl}
-use mathlib.Core.Bool.{true}
 use mathlib.Core.List.{List}
 use Rattle.floats.specs.Binary.{whole}
 use Rattle.grid.specs.declared.Cell.{Cell}
-use Rattle.grid.specs.Grid.{onGrid}
 use Rattle.grid.specs.Map.{Map}
 use Rattle.grid.specs.Answer.{firstNo, answered, refused, after}
-use Rattle.grid.proofs.Answers.{Passed, map-then, decide-yes, decide-no}
-use Rattle.sums.specs.Sums.{sumsFit, filledSums}
+use Rattle.grid.proofs.Answers.{PassedCall, map-then, decide-yes, decide-no}
+use Rattle.sums.specs.Sums.{filledSums}
 use Rattle.kernel.specs.Circle.{population}
-use Rattle.kernel.specs.Call.{radiusInRange, circleOwn, circleQuestions, circleCall}
+use Rattle.kernel.specs.Call.{circleOwn, circleQuestions, circleCall}
 
 -- ---- the questions of the call
 
 module _ (m : Map) (sums : List ℕ) (km : ℕ) (centre : Cell) where
-  -- what an accepted call has passed
-  pub record CirclePassed : Type 0 where
-    pub map : Passed m
-    pub fit : sumsFit (m .globe .grid) sums ≡ true
-    pub radius : radiusInRange (m .globe .grid) km ≡ true
-    pub on : onGrid (m .globe .grid) centre ≡ true
-
-  pub circle-passed : firstNo (circleQuestions m sums km centre) ≡ 0 → CirclePassed
+  pub circle-passed : firstNo (circleQuestions m sums km centre) ≡ 0 → PassedCall m (circleOwn (m .globe .grid) sums km centre)
   unfolding circleQuestions
-  circle-passed e =
-      let all = map-then m (circleOwn (m .globe .grid) sums km centre) refl e in
-      record { map = all .0; fit = all .1 .0; radius = all .1 .1 .0; on = all .1 .1 .1 .0 }
+  circle-passed e = map-then m (circleOwn (m .globe .grid) sums km centre) refl e
 
   -- ---- what the call gives
 

@@ -35,8 +35,8 @@ module _ (g : Grid) (l : Ledger) (x : Entry) where
   unfolding putQuestions
   put-room e =
       let own = grid-then g _ refl e .1 in
-      let parts = ordered g l (and-left (ledgerInOrder g l) (entryInBounds g x) (own .0)) in
-      record { counted = parts .counted; rising = parts .rising; place = own .1 .0 }
+      let parts = ordered g l (and-left (ledgerInOrder g l) (entryInBounds g x) (own 11 .0)) in
+      record { counted = parts .counted; rising = parts .rising; place = own 12 .0 }
 
   pub call-refused : (n : ℕ) → n ≡ firstNo (putQuestions g l x) → 0 < n → record { answer = refused n; ledger = l } ≡ putCall g l x
   unfolding putCall after

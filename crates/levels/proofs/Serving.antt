@@ -2,6 +2,7 @@
 use mathlib.Core.Path.{_≡_, refl, sym, ap, subst, _∙_}
 use mathlib.Core.Bool.{true}
 use mathlib.Core.List.{List}
+use mathlib.Core.Logic.{_⊎_, inl, inr}
 use native.Mathlib.Omega.{arith}
 use lib.Ieee.{Float}
 use Rattle.grid.specs.declared.Row.{Row}
@@ -10,7 +11,7 @@ use Rattle.grid.specs.Map.{Globe, globeOf, sheetOf}
 use Rattle.kernel.specs.declared.Kernel.{Kernel}
 use Rattle.kernel.specs.Kernel.{kernelOf}
 use Rattle.blocks.specs.declared.Block.{Block}
-use Rattle.blocks.specs.Block.{probe, sameShape}
+use Rattle.blocks.specs.Block.{probe, sameShape, Rectangle}
 use Rattle.blocks.proofs.Shapes.{row-path, shape-north, shape-south}
 use Rattle.bounds.specs.Bound.{wideKm}
 use Rattle.bounds.specs.State.{wideKernel}
@@ -56,10 +57,18 @@ module _ (g : Grid) (angles cosines : List Float) (km : Float) where
       absurd (omega (arith, ap (λ (x : Row). x .0) (shape-north noShape b q), ap (λ (x : Row). x .0) (shape-south noShape b q), r .rows))
 
   -- a block's wide kernel serves its shape
-  pub serves-own : (shape b : Block) (k : Kernel) → shape ≡ b → k ≡ wideKernel (globeOf g angles cosines) km b → Serves g angles cosines km shape k
+  serves-own : (shape b : Block) (k : Kernel) → shape ≡ b → k ≡ wideKernel (globeOf g angles cosines) km b → Serves g angles cosines km shape k
   serves-own shape b k s is x r e =
       is ∙ same-wide-kernel (globeOf g angles cosines) km b x (subst (λ (y : Block). sameShape y x ≡ true) s e) (r .columns)
 
   -- what is kept serves as before
   pub serves-still : (shape shape′ : Block) (k k′ : Kernel) → shape′ ≡ shape → k′ ≡ k → Serves g angles cosines km shape k → Serves g angles cosines km shape′ k′
   serves-still shape shape′ k k′ s is served x r e = is ∙ served x r (subst (λ (y : Block). sameShape y x ≡ true) s e)
+
+  -- the kernel at hand for a block: built for it, or kept where its shape is the one served
+  pub wide-now : (b : Block) (r : Rectangle g b) (shape shape′ : Block) (k k′ : Kernel) → Serves g angles cosines km shape k
+      → ((shape′ ≡ b) × (k′ ≡ wideKernel (globeOf g angles cosines) km b)) ⊎ ((sameShape shape b ≡ true) × (shape′ ≡ shape) × (k′ ≡ k))
+      → (k′ ≡ wideKernel (globeOf g angles cosines) km b) × Serves g angles cosines km shape′ k′
+  wide-now b r shape shape′ k k′ served (inl built) = (built .1, serves-own shape′ b k′ (built .0) (built .1))
+  wide-now b r shape shape′ k k′ served (inr kept) =
+      (kept .2 ∙ served b r (kept .0), serves-still shape shape′ k k′ (kept .1) (kept .2) served)

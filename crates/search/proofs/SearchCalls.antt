@@ -11,14 +11,13 @@ use Rattle.floats.specs.Binary.{whole}
 use Rattle.grid.specs.Grid.{cells}
 use Rattle.grid.specs.Map.{Map}
 use Rattle.grid.specs.Answer.{firstNo, answered, refused, after, shown}
-use Rattle.grid.proofs.Answers.{Passed, map-then, decide-yes, decide-no}
+use Rattle.grid.proofs.Answers.{Passed, PassedCall, map-then, decide-yes, decide-no}
 use Rattle.sums.specs.Sums.{sumsFit, filledSums}
 use Rattle.sums.specs.State.{countsMap, globeMap}
 use Rattle.sums.specs.Requires.{Fillable}
 use Rattle.sums.proofs.Tables.{fillable, bare-filled, globe-map, globe-summed}
-use Rattle.kernel.specs.Call.{radiusInRange}
 use Rattle.bounds.specs.declared.Spacing.{Spacing}
-use Rattle.bounds.specs.Spacing.{spacingGiven, spacingOf}
+use Rattle.bounds.specs.Spacing.{spacingOf}
 use Rattle.candidates.specs.declared.Held.the-variants.{Nobody}
 use Rattle.candidates.specs.Candidate.{northWest}
 use Rattle.levels.specs.Level.{noTally}
@@ -47,18 +46,9 @@ search-found m spacing km side found some e f =
 -- ---- the questions of the call
 
 module _ (m : Map) (spacing : Spacing) (km : ℕ) (lent : Buffers) where
-  -- what an accepted call has passed
-  pub record SearchPassed : Type 0 where
-    pub map : Passed m
-    pub fit : buffersFit (m .globe .grid) lent ≡ true
-    pub radius : radiusInRange (m .globe .grid) km ≡ true
-    pub given : spacingGiven spacing ≡ true
-
-  pub search-passed : firstNo (searchQuestions m spacing km lent) ≡ 0 → SearchPassed
+  pub search-passed : firstNo (searchQuestions m spacing km lent) ≡ 0 → PassedCall m (searchOwn (m .globe .grid) spacing km lent)
   unfolding searchQuestions
-  search-passed e =
-      let all = map-then m (searchOwn (m .globe .grid) spacing km lent) refl e in
-      record { map = all .0; fit = all .1 .0; radius = all .1 .1 .0; given = all .1 .1 .1 .0 }
+  search-passed e = map-then m (searchOwn (m .globe .grid) spacing km lent) refl e
 
   -- ---- what the call gives
 
@@ -75,38 +65,38 @@ module _ (m : Map) (spacing : Spacing) (km : ℕ) (lent : Buffers) where
   search-answered found sums current following e f s n l =
       rw (decide-yes (firstNo (searchQuestions m spacing km lent)) (search m spacing km) e, f, s, n, l)
 
--- ---- what an accepted call knows at each of its steps
+-- ---- what a call knows at each of its steps, once the map has passed and the buffers fit
 
-module _ {m : Map} {spacing : Spacing} {km : ℕ} {lent : Buffers} (p : SearchPassed m spacing km lent) where
+module _ (m : Map) (lent : Buffers) (passed : Passed m) (fit : buffersFit (m .globe .grid) lent ≡ true) where
   both : (sumsFit (m .globe .grid) (lent .sums) && leb (cells (m .globe .grid)) (length (lent .current))) ≡ true
   unfolding buffersFit
-  both = and-left (sumsFit (m .globe .grid) (lent .sums) && leb (cells (m .globe .grid)) (length (lent .current))) (leb (cells (m .globe .grid)) (length (lent .following))) (p .fit)
+  both = and-left (sumsFit (m .globe .grid) (lent .sums) && leb (cells (m .globe .grid)) (length (lent .current))) (leb (cells (m .globe .grid)) (length (lent .following))) fit
 
   following-fits : leb (cells (m .globe .grid)) (length (lent .following)) ≡ true
   unfolding buffersFit
-  following-fits = and-right (sumsFit (m .globe .grid) (lent .sums) && leb (cells (m .globe .grid)) (length (lent .current))) (leb (cells (m .globe .grid)) (length (lent .following))) (p .fit)
+  following-fits = and-right (sumsFit (m .globe .grid) (lent .sums) && leb (cells (m .globe .grid)) (length (lent .current))) (leb (cells (m .globe .grid)) (length (lent .following))) fit
 
   pub to-fill : Fillable (m .globe .grid) (m .counts) (lent .sums)
   to-fill =
-      fillable m (lent .sums) (p .map .grid .sizes) (p .map .counts)
+      fillable m (lent .sums) (passed .grid .sizes) (passed .counts)
       (and-left (sumsFit (m .globe .grid) (lent .sums)) (leb (cells (m .globe .grid)) (length (lent .current))) both)
 
   -- once the sums are filled
   module _ (last : List ℕ) (filled : last ≡ filledSums (countsMap (m .globe .grid) (m .counts)) (lent .sums)) where
-    pub sums-filled : last ≡ filledSums m (lent .sums)
+    sums-filled : last ≡ filledSums m (lent .sums)
     sums-filled = filled ∙ bare-filled m (lent .sums)
 
     pub to-search : ((i : ℕ) → getD (m .counts) i 0 < 2 ^ 32) → CanSearch (m .globe .grid) (m .globe .angles) (m .globe .cosines) last (lent .current) (lent .following)
     to-search small =
         record {
           ready = record {
-            sizes = p .map .grid .sizes;
-            complete = p .map .sheet;
-            order = p .map .order;
+            sizes = passed .grid .sizes;
+            complete = passed .sheet;
+            order = passed .order;
             table = globe-summed m (lent .sums) last to-fill sums-filled small;
           };
           buffers = record {
-            sizes = p .map .grid .sizes;
+            sizes = passed .grid .sizes;
             current-room =
                 leb-true (cells (m .globe .grid)) (length (lent .current))
                 (and-right (sumsFit (m .globe .grid) (lent .sums)) (leb (cells (m .globe .grid)) (length (lent .current))) both);
@@ -115,5 +105,5 @@ module _ {m : Map} {spacing : Spacing} {km : ℕ} {lent : Buffers} (p : SearchPa
         }
 
     -- the map by its sums is the map
-    pub searched-map : search (globeMap (m .globe) last) spacing km ≡ search m spacing km
-    searched-map = ap (λ (x : Map). search x spacing km) (globe-map m (lent .sums) last to-fill sums-filled)
+    pub searched-map : (spacing : Spacing) (km : ℕ) → search (globeMap (m .globe) last) spacing km ≡ search m spacing km
+    searched-map spacing km = ap (λ (x : Map). search x spacing km) (globe-map m (lent .sums) last to-fill sums-filled)

@@ -3,31 +3,26 @@ use Prim.Native.Nat.{ℕ, _<_, _^_}
 use mathlib.Core.Path.{_≡_, refl, sym, ap, _∙_}
 use mathlib.Core.Bool.{true}
 use mathlib.Core.List.{List, _∷_}
-use native.Mathlib.Omega.{arith}
 use lib.Ieee.{Float}
 use lib.ListN.{length, getD}
-use borrow.Author.Tests.{le-leb}
 use Rattle.floats.specs.Binary.{whole}
 use Rattle.grid.specs.declared.Grid.{Grid}
-use Rattle.grid.specs.Grid.{ceiling}
 use Rattle.grid.specs.Map.{Map, sheetOf}
-use Rattle.grid.specs.Answer.{question, firstNo, refused, after, shown}
-use Rattle.grid.proofs.Answers.{Passed, map-then, decide-yes, decide-no}
+use Rattle.grid.specs.Answer.{Question, question, firstNo, refused, after, shown}
+use Rattle.grid.proofs.Answers.{PassedCall, map-then, decide-yes, decide-no}
 use Rattle.sums.specs.Sums.{total, filledSums}
 use Rattle.sums.specs.State.{countsMap, globeMap, tableMap}
 use Rattle.sums.specs.Requires.{Fillable}
 use Rattle.sums.proofs.Tables.{bare-filled, bare-total, globe-map}
-use Rattle.kernel.specs.Call.{radiusInRange}
 use Rattle.bounds.specs.declared.Spacing.{Spacing}
-use Rattle.bounds.specs.Spacing.{spacingGiven}
 use Rattle.levels.specs.State.{summedMap}
 use Rattle.search.specs.Call.{Buffers, buffers, buffersFit, buffersAfter}
 use Rattle.search.proofs.SearchCalls as searching
-use Rattle.search.proofs.SearchCalls.{SearchPassed, to-search}
+use Rattle.search.proofs.SearchCalls.{to-search}
 use Rattle.ledger.specs.declared.Ledger.{Ledger}
-use Rattle.ledger.specs.Ledger.{ledgerInOrder, placesFree}
+use Rattle.ledger.specs.Ledger.{placesFree}
 use Rattle.share.specs.declared.Target.{Target}
-use Rattle.share.specs.Target.{predicateSlackPersons, shareInRange, targetOf}
+use Rattle.share.specs.Target.{predicateSlackPersons, targetOf}
 use Rattle.probes.specs.declared.RunEnd.{RunEnd}
 use Rattle.probes.specs.declared.Smallest.{Smallest}
 use Rattle.probes.specs.Probes.{mostRadii}
@@ -44,28 +39,14 @@ use Rattle.smallest.specs.State.{IsSettled}
 
 -- ---- the questions
 
-module _ (g : Grid) (spacing : Spacing) (share : Float) (l : Ledger) where
-  -- what an accepted call has passed of its own questions
-  pub record OwnPassed : Type 0 where
-    pub share-is : shareInRange share ≡ true
-    pub given : spacingGiven spacing ≡ true
-    pub ledger : ledgerInOrder g l ≡ true
-    pub room : placesFree l mostRadii ≡ true
+-- the questions of the call after the map's
+abbrev pub smallestOwn : Grid → Spacing → Float → Ledger → Buffers → List Question
+smallestOwn g spacing share l lent = question 7 (buffersFit g lent) ∷ ownQuestions g spacing share l
 
 module _ (m : Map) (spacing : Spacing) (share : Float) (l : Ledger) (lent : Buffers) where
-  -- what an accepted call has passed
-  pub record SmallestPassed : Type 0 where
-    pub map : Passed m
-    pub fit : buffersFit (m .globe .grid) lent ≡ true
-    pub own : OwnPassed (m .globe .grid) spacing share l
-
-  pub smallest-passed : firstNo (smallestQuestions m spacing share l lent) ≡ 0 → SmallestPassed
+  pub smallest-passed : firstNo (smallestQuestions m spacing share l lent) ≡ 0 → PassedCall m (smallestOwn (m .globe .grid) spacing share l lent)
   unfolding smallestQuestions ownQuestions
-  smallest-passed e =
-      let g = m .globe .grid in
-      let all = map-then m (question 7 (buffersFit g lent) ∷ ownQuestions g spacing share l) refl e in
-      let own = all .1 .1 in
-      record { map = all .0; fit = all .1 .0; own = record { share-is = own .0; given = own .1 .0; ledger = own .1 .1 .0; room = own .1 .1 .1 .0 } }
+  smallest-passed e = map-then m (smallestOwn (m .globe .grid) spacing share l lent) refl e
 
   -- ---- what the call gives
 
@@ -130,22 +111,19 @@ module _ {g : Grid} {angles cosines : List Float} {sums current following : List
 
 -- ---- what an accepted call knows at each of its steps
 
-module _ {m : Map} {spacing : Spacing} {share : Float} {l : Ledger} {lent : Buffers} (p : SmallestPassed m spacing share l lent) where
-  -- it has passed what a search at radius 0 asks
-  as-search : SearchPassed m spacing 0 lent
-  unfolding radiusInRange
-  as-search = record { map = p .map; fit = p .fit; radius = le-leb 0 (ceiling (m .globe .grid)) (omega arith); given = p .own .given }
-
+module _ (m : Map) (spacing : Spacing) (share : Float) (l : Ledger) (lent : Buffers) (p : PassedCall m (smallestOwn (m .globe .grid) spacing share l lent)) where
   pub to-fill : Fillable (m .globe .grid) (m .counts) (lent .sums)
-  to-fill = searching.to-fill as-search
+  to-fill = searching.to-fill m lent (p .map) (p .yes 7 .0)
+
+  pub room-left : placesFree l mostRadii ≡ true
+  unfolding ownQuestions
+  room-left = p .yes 12 .0
 
   module _ (last : List ℕ) (filled : last ≡ filledSums (countsMap (m .globe .grid) (m .counts)) (lent .sums)) where
-    pub sums-filled : last ≡ filledSums m (lent .sums)
-    sums-filled = filled ∙ bare-filled m (lent .sums)
-
     pub to-settle : ((i : ℕ) → getD (m .counts) i 0 < 2 ^ 32) → CanSettle (m .globe .grid) (m .globe .angles) (m .globe .cosines) last (lent .current) (lent .following) l
-    to-settle small = record { search = to-search as-search last filled small; ledger = p .own .ledger; room = p .own .room }
+    unfolding ownQuestions
+    to-settle small = record { search = to-search m lent (p .map) (p .yes 7 .0) last filled small; ledger = p .yes 11 .0; room = room-left }
 
     -- the map by its sums is the map
     pub settled-map : {r : SmallestResult} → IsSettled (smallest (globeMap (m .globe) last) spacing share l) r → IsSettled (smallest m spacing share l) r
-    settled-map s = rw (globe-map m (lent .sums) last to-fill sums-filled) at s
+    settled-map s = rw (globe-map m (lent .sums) last to-fill (filled ∙ bare-filled m (lent .sums))) at s

@@ -2,10 +2,12 @@
 use mathlib.Core.Path.{sym, _∙_}
 use denote.Ref.{now}
 use Rattle.grid.specs.Map.{Map, lentMap}
-use Rattle.kernel.specs.Call.{circleAnswer}
-use Rattle.kernel.proofs.Calls.{CirclePassed, circle-passed, circle-refused, circle-answered}
+use Rattle.grid.proofs.Answers.{PassedCall}
+use Rattle.sums.proofs.Tables.{bare-filled}
+use Rattle.kernel.specs.Call.{circleOwn, circleAnswer}
+use Rattle.kernel.proofs.Calls.{circle-passed, circle-refused, circle-answered}
 use Rattle.kernel.proofs.Placing.{rows-placed, rows-people}
-use Rattle.kernel.proofs.Accepted.{to-fill, to-build, to-sum, summed-up, sums-filled}
+use Rattle.kernel.proofs.Accepted.{to-fill, to-build, to-sum, summed-up}
 use borrow.Author.Needs.{needs}
 use Rattle.kernel.proofs.call.circle.Statement.{statement}
 use Rattle.kernel.proofs.call.circle.Tie as tie
@@ -34,7 +36,8 @@ returns c =
     circle-refused (given st) (now (st .args .sums)) (st .args .km) (st .args .centre) (told .result) (told .ensures) (c .if1 .taken)
 
 -- past the questions, with the sums filled, and with the kernel built
-passed : (e : tie.Else1) → let st = start (e .before) in CirclePassed (given st) (now (st .args .sums)) (st .args .km) (st .args .centre)
+passed : (e : tie.Else1) → let st = start (e .before) in
+    PassedCall (given st) (circleOwn (st .args .grid) (now (st .args .sums)) (st .args .km) (st .args .centre))
 passed e = circle-passed _ _ _ _ (sym (e .before .circle-refusal .ensures) ∙ e .if1 .left)
 
 abbrev asked : tie.After-fill-sums → tie.Else1
@@ -47,20 +50,20 @@ abbrev built : tie.After-circle-population-arg3 → tie.After-build
 built c = c .before .before .before .before
 
 fill-sums-requires : tie.Need-fill-sums-requires
-fill-sums-requires c κs = to-fill (passed (c .before))
+fill-sums-requires c κs = to-fill _ _ _ _ (passed (c .before))
 
 int-to-float-build : tie.Need-int-to-float-build
 int-to-float-build c = search needs
 
 build-requires : tie.Need-build-requires
-build-requires c κs = to-build (passed (asked (filled c)))
+build-requires c κs = to-build _ _ _ _ (passed (asked (filled c)))
 
 circle-population-requires : tie.Need-circle-population-requires
 circle-population-requires c κs =
     let b = built c in
     let f = filled (b .before) in
     let e = asked f in
-    rows-placed (to-sum (passed e) _ (f .fill-sums .ensures) _ (b .build .ensures) (λ i. counted (e .before) .shared-slice-known .given i .fits))
+    rows-placed (to-sum _ _ _ _ (passed e) _ (f .fill-sums .ensures) _ (b .build .ensures) (λ i. counted (e .before) .shared-slice-known .given i .fits))
 
 same-length-2 : tie.Need-same-length-2
 same-length-2 c = search needs
@@ -72,8 +75,8 @@ returns-2 c =
     let f = filled (b .before) in
     let e = asked f in
     circle-answered _ _ _ _ _ _ (sym (e .before .circle-refusal .ensures) ∙ e .if1 .left)
-    (c .circle-population .ensures ∙ rows-people _ (b .build .result) _ ∙ summed-up (passed e) _ (f .fill-sums .ensures) _ (b .build .ensures))
-    (sums-filled (passed e) _ (f .fill-sums .ensures) _ (b .build .ensures))
+    (c .circle-population .ensures ∙ rows-people _ (b .build .result) _ ∙ summed-up _ _ _ _ (passed e) _ (f .fill-sums .ensures) _ (b .build .ensures))
+    (f .fill-sums .ensures ∙ bare-filled (given (start (e .before))) _)
 
 pub circle-spec : {M : Type 1} → statement M
 circle-spec =

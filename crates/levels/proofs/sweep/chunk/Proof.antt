@@ -1,31 +1,36 @@
 -- `levels::sweep::chunk`. Invariant: the work is the definition's over the blocks passed, and their children are written; the exact
 -- kernel is that of its row, and each wide one serves its shape.
 use lib.ListN.{length}
-use Prim.Native.Nat.{_-_, _<_}
+use Prim.Native.Nat.{ℕ, _-_, _<_}
 use mathlib.Core.Path.{_≡_, sym, ap, subst, _∙_}
 use mathlib.Core.Bool.{true, cond}
 use mathlib.Core.List.{List, [], _∷_, _++_}
-use mathlib.Core.Logic.{⊎-elim}
+use mathlib.Core.Logic.{inl, inr, ⊎-elim}
 use native.Mathlib.Omega.{arith}
 use denote.Ref.{now}
 use lib.Ieee.{Float, eq}
 use Rattle.grid.specs.declared.Cell.{Cell}
 use Rattle.grid.specs.Map.{Map, sheetOf}
+use Rattle.sums.specs.State.{tableMap}
 use Rattle.kernel.specs.Circle.{population}
-use Rattle.kernel.specs.Kernel.{kernelOf}
+use Rattle.kernel.specs.declared.Kernel.{Kernel}
+use Rattle.kernel.specs.Kernel.{kernelOf, kernelPopulation}
+use Rattle.kernel.specs.Requires.{CanSum}
+use Rattle.kernel.proofs.Placing.{rowsOf}
 use Rattle.kernel.proofs.Populations.{same-population}
 use Rattle.lists.proofs.Bools.{of-true}
 use Rattle.blocks.specs.declared.Block.{Block}
 use Rattle.blocks.specs.Block.{probe, Rectangle}
 use Rattle.bounds.specs.Bound.{wideKm}
 use Rattle.bounds.specs.State.{wideKernel}
+use Rattle.bounds.specs.Requires.{CanWiden}
 use Rattle.candidates.specs.declared.Held.{Held}
 use Rattle.levels.specs.Level.{examine, chunk}
 use Rattle.levels.specs.State.{blocksFrom, Swept, summedMap, KernelAt, Serves, workOf}
 use Rattle.blocks.specs.Requires.{CanSplit}
 use Rattle.levels.specs.declared.ChunkWork.{ChunkWork}
 use Rattle.levels.specs.Requires.{CanCount}
-use Rattle.levels.proofs.Serving.{kernel-at, kernel-kept, wide-at, wide-radius, serves-none, serves-own, serves-still}
+use Rattle.levels.proofs.Serving.{kernel-at, kernel-kept, wide-at, wide-radius, serves-none, serves-still, wide-now}
 use Rattle.levels.proofs.OneBlock.{ready-sheet, ready-cosines, probe-row, probe-placed, probe-people, not-asked, examined-is}
 use Rattle.levels.proofs.Sweeps.{Sweeping, middle-on, start-held, start-own, sweep-start, next-rectangle, sweep-counts, sweep-room, sweep-next, sweep-done}
 use borrow.Author.Tests.{not-false, eqb-true}
@@ -79,84 +84,80 @@ rectangle c =
     subst (Rectangle (st .args .grid)) (sym (c .before .before .from-word .ensures))
     (next-rectangle _ _ _ _ _ _ _ _ _ _ _ (st .pre .0) (st .pre .1 .0) (st .pre .1 .1) (l .following) (l .work) (l .at) (l .i) (l .inv .0) (entered c .loop-test .taken))
 
--- ---- the wide kernels
+-- ---- the wide kernels, either of which is the block's own once it is built or kept
 
-one-wide : (c : tie.Joined2 Inv-loop μ-loop) → let h = c .before .before .before in c .if2 .one ≡ wideKernel (the-map (head-of h) .globe) (start-of (head-of h) .args .km) (block-of h)
-one-wide c =
-    let h = c .before .before .before in
-    ⊎-elim (λ w. w .2 ∙ w .1 .ensures)
-    (λ w. w .1 ∙ head-of h .loop .inv .2 (block-of h) (rectangle h) (sym (c .before .same-shape .ensures) ∙ not-false _ (w .0 .left)))
-    (c .if2 .came)
+abbrev WideNow : tie.After-odd-columns Inv-loop μ-loop → Block → Kernel → Type 0
+WideNow b shape k =
+    let a = start-of (head-of b) .args in
+    (k ≡ wideKernel (the-map (head-of b) .globe) (a .km) (block-of b)) × Serves (a .grid) (now (a .angles)) (now (a .cosines)) (a .km) shape k
 
-one-serves : (c : tie.Joined2 Inv-loop μ-loop) → let a = start-of (head-of (c .before .before .before)) .args in
-    Serves (a .grid) (now (a .angles)) (now (a .cosines)) (a .km) (c .if2 .one-shape) (c .if2 .one)
-one-serves c =
-    ⊎-elim (λ w. serves-own _ _ _ _ (c .if2 .one-shape) (block-of (c .before .before .before)) (c .if2 .one) (w .3) (w .2 ∙ w .1 .ensures))
-    (λ w. serves-still _ _ _ _ _ (c .if2 .one-shape) _ (c .if2 .one) (w .2) (w .1) (head-of (c .before .before .before) .loop .inv .2))
-    (c .if2 .came)
+one-now : (c : tie.Joined2 Inv-loop μ-loop) → WideNow (c .before .before .before) (c .if2 .one-shape) (c .if2 .one)
+one-now c =
+    let b = c .before .before .before in
+    wide-now _ _ _ _ (block-of b) (rectangle b) _ (c .if2 .one-shape) _ (c .if2 .one) (head-of b .loop .inv .2)
+    (⊎-elim (λ w. inl (w .3, w .2 ∙ w .1 .ensures)) (λ w. inr (sym (c .before .same-shape .ensures) ∙ not-false _ (w .0 .left), w .2, w .1)) (c .if2 .came))
 
-two-wide : (c : tie.Joined3 Inv-loop μ-loop) → let h = c .before .before .before in c .if3 .two ≡ wideKernel (the-map (head-of h) .globe) (start-of (head-of h) .args .km) (block-of h)
-two-wide c =
-    let h = c .before .before .before in
-    ⊎-elim (λ w. w .2 ∙ w .1 .ensures)
-    (λ w. w .1 ∙ head-of h .loop .inv .3 (block-of h) (rectangle h) (sym (c .before .same-shape2 .ensures) ∙ not-false _ (w .0 .left)))
-    (c .if3 .came)
+two-now : (c : tie.Joined3 Inv-loop μ-loop) → WideNow (c .before .before .before) (c .if3 .two-shape) (c .if3 .two)
+two-now c =
+    let b = c .before .before .before in
+    wide-now _ _ _ _ (block-of b) (rectangle b) _ (c .if3 .two-shape) _ (c .if3 .two) (head-of b .loop .inv .3)
+    (⊎-elim (λ w. inl (w .3, w .2 ∙ w .1 .ensures)) (λ w. inr (sym (c .before .same-shape2 .ensures) ∙ not-false _ (w .0 .left), w .2, w .1)) (c .if3 .came))
 
-two-serves : (c : tie.Joined3 Inv-loop μ-loop) → let a = start-of (head-of (c .before .before .before)) .args in
-    Serves (a .grid) (now (a .angles)) (now (a .cosines)) (a .km) (c .if3 .two-shape) (c .if3 .two)
-two-serves c =
-    ⊎-elim (λ w. serves-own _ _ _ _ (c .if3 .two-shape) (block-of (c .before .before .before)) (c .if3 .two) (w .3) (w .2 ∙ w .1 .ensures))
-    (λ w. serves-still _ _ _ _ _ (c .if3 .two-shape) _ (c .if3 .two) (w .2) (w .1) (head-of (c .before .before .before) .loop .inv .3))
-    (c .if3 .came)
+module _ (b : tie.After-odd-columns Inv-loop μ-loop) where
+  abbrev st : tie.Start Inv-loop μ-loop
+  st = start-of (head-of b)
 
--- ---- a block's wide radius and bound, either way
+  can-widen : CanWiden (st .args .grid) (now (st .args .angles)) (now (st .args .cosines)) (block-of b)
+  can-widen = let t = st .pre .0 in record { sheet = ready-sheet _ _ _ _ t; complete = ready-cosines _ _ _ _ t; rectangle = rectangle b }
+
+  -- a kernel of the probe's row: it can be summed around the probe, to the people of the probe's circle
+  module _ (km : Float) (k : Kernel) (is : k ≡ kernelOf (sheetOf (st .args .grid) (now (st .args .angles))) (probe (block-of b) .row) km) where
+    can-sum : CanSum (st .args .grid) (now (st .args .sums)) (rowsOf k) (b .before .probe .result .col)
+    can-sum = probe-placed _ _ _ _ (st .pre .0) (block-of b) (rectangle b) (b .before .probe .result) (b .before .probe .ensures) km k is
+
+    people : kernelPopulation (tableMap (st .args .grid) (now (st .args .sums))) (rowsOf k) (b .before .probe .result .col)
+        ≡ population (the-map (head-of b)) km (probe (block-of b))
+    people = probe-people _ _ _ _ (st .pre .0) (block-of b) (rectangle b) (b .before .probe .result) (b .before .probe .ensures) km k is
+
+-- ---- a block's wide radius and bound, and what the two wide kernels serve after it
 
 module _ (c : tie.Joined1 Inv-loop μ-loop) where
   abbrev h : tie.After-odd-columns Inv-loop μ-loop
   h = c .before
 
-  abbrev a : tie.Start Inv-loop μ-loop
-  a = start-of (head-of h)
+  abbrev Wide : Float → ℕ → Type 0
+  Wide wide bound =
+      let there = wideKm (the-map (head-of h) .globe) (st h .args .km) (block-of h) in
+      (wide ≡ there) × (bound ≡ population (the-map (head-of h)) there (probe (block-of h)))
 
-  abbrev wide-there : Float
-  wide-there = wideKm (the-map (head-of h) .globe) (a .args .km) (block-of h)
+  abbrev ServesNow : Block → Kernel → Type 0
+  ServesNow shape k = let a = st h .args in Serves (a .grid) (now (a .angles)) (now (a .cosines)) (a .km) shape k
 
-  wide-is : c .if1 .wide ≡ wide-there
-  wide-is =
+  widened : Wide (c .if1 .wide) (c .if1 .bound) × ServesNow (c .if1 .one-shape) (c .if1 .one) × ServesNow (c .if1 .two-shape) (c .if1 .two)
+  widened =
+      let inv = head-of h .loop .inv in
       ⊎-elim
-      (λ w. w .11 ∙ wide-radius _ _ (block-of h) (w .2 .one) (one-wide (record { before = record { before = record { before = h; if1 = w .0 }; same-shape = w .1 }; if2 = w .2 })))
-      (λ w. w .11 ∙ wide-radius _ _ (block-of h) (w .2 .two) (two-wide (record { before = record { before = record { before = h; if1 = w .0 }; same-shape2 = w .1 }; if3 = w .2 })))
+      (λ w.
+      let o = one-now (record { before = record { before = record { before = h; if1 = w .0 }; same-shape = w .1 }; if2 = w .2 }) in
+      let k = w .2 .one in (
+        (w .11 ∙ wide-radius _ _ (block-of h) k (o .0), w .12 ∙ w .6 .ensures ∙ people h _ k (wide-at _ _ (block-of h) k (o .0))),
+        serves-still _ _ _ _ _ (c .if1 .one-shape) _ (c .if1 .one) (w .8) (w .7) (o .1),
+        serves-still _ _ _ _ _ (c .if1 .two-shape) _ (c .if1 .two) (w .10) (w .9) (inv .3),
+      ))
+      (λ w.
+      let t = two-now (record { before = record { before = record { before = h; if1 = w .0 }; same-shape2 = w .1 }; if3 = w .2 }) in
+      let k = w .2 .two in (
+        (w .11 ∙ wide-radius _ _ (block-of h) k (t .0), w .12 ∙ w .6 .ensures ∙ people h _ k (wide-at _ _ (block-of h) k (t .0))),
+        serves-still _ _ _ _ _ (c .if1 .one-shape) _ (c .if1 .one) (w .8) (w .7) (inv .2),
+        serves-still _ _ _ _ _ (c .if1 .two-shape) _ (c .if1 .two) (w .10) (w .9) (t .1),
+      ))
       (c .if1 .came)
 
-  bound-there : c .if1 .bound ≡ population (the-map (head-of h)) wide-there (probe (block-of h))
-  bound-there =
-      ⊎-elim
-      (λ w. w .12 ∙ w .6 .ensures
-      ∙ probe-people _ _ _ _ (a .pre .0) (block-of h) (rectangle h) (h .before .probe .result) (h .before .probe .ensures) _ (w .2 .one)
-      (wide-at _ _ (block-of h) (w .2 .one) (one-wide (record { before = record { before = record { before = h; if1 = w .0 }; same-shape = w .1 }; if2 = w .2 }))))
-      (λ w. w .12 ∙ w .6 .ensures
-      ∙ probe-people _ _ _ _ (a .pre .0) (block-of h) (rectangle h) (h .before .probe .result) (h .before .probe .ensures) _ (w .2 .two)
-      (wide-at _ _ (block-of h) (w .2 .two) (two-wide (record { before = record { before = record { before = h; if1 = w .0 }; same-shape2 = w .1 }; if3 = w .2 }))))
-      (c .if1 .came)
+  wide-is : c .if1 .wide ≡ wideKm (the-map (head-of h) .globe) (st h .args .km) (block-of h)
+  wide-is = widened .0 .0
 
   bound-is : c .if1 .bound ≡ population (the-map (head-of h)) (c .if1 .wide) (probe (block-of h))
-  bound-is = bound-there ∙ ap (λ (x : Float). population (the-map (head-of h)) x (probe (block-of h))) (sym wide-is)
-
-  one-after : Serves (a .args .grid) (now (a .args .angles)) (now (a .args .cosines)) (a .args .km) (c .if1 .one-shape) (c .if1 .one)
-  one-after =
-      ⊎-elim
-      (λ w. serves-still _ _ _ _ _ (c .if1 .one-shape) _ (c .if1 .one) (w .8) (w .7)
-      (one-serves (record { before = record { before = record { before = h; if1 = w .0 }; same-shape = w .1 }; if2 = w .2 })))
-      (λ w. serves-still _ _ _ _ _ (c .if1 .one-shape) _ (c .if1 .one) (w .8) (w .7) (head-of h .loop .inv .2))
-      (c .if1 .came)
-
-  two-after : Serves (a .args .grid) (now (a .args .angles)) (now (a .args .cosines)) (a .args .km) (c .if1 .two-shape) (c .if1 .two)
-  two-after =
-      ⊎-elim
-      (λ w. serves-still _ _ _ _ _ (c .if1 .two-shape) _ (c .if1 .two) (w .10) (w .9) (head-of h .loop .inv .3))
-      (λ w. serves-still _ _ _ _ _ (c .if1 .two-shape) _ (c .if1 .two) (w .10) (w .9)
-      (two-serves (record { before = record { before = record { before = h; if1 = w .0 }; same-shape2 = w .1 }; if3 = w .2 })))
-      (c .if1 .came)
+  bound-is = widened .0 .1 ∙ ap (λ (x : Float). population (the-map (head-of h)) x (probe (block-of h))) (sym wide-is)
 
 -- ---- the exact kernel, and a survivor's population
 
@@ -178,10 +179,10 @@ module _ (c : tie.Joined4 Inv-loop μ-loop) where
   abbrev b : tie.After-odd-columns Inv-loop μ-loop
   b = j .before
 
-  abbrev st : tie.Start Inv-loop μ-loop
-  st = start-of (head-of b)
+  abbrev begun : tie.Start Inv-loop μ-loop
+  begun = st b
 
-  exact-after : KernelAt (st .args .grid) (now (st .args .angles)) (st .args .km) (c .if4 .exact)
+  exact-after : KernelAt (begun .args .grid) (now (begun .args .angles)) (begun .args .km) (c .if4 .exact)
   exact-after =
       ⊎-elim
       (λ w. kernel-at _ _ (probe (block-of b) .row) _ (c .if4 .exact)
@@ -192,18 +193,17 @@ module _ (c : tie.Joined4 Inv-loop μ-loop) where
       (λ w. subst (KernelAt _ _ _) (sym (w .1)) (head-of b .loop .inv .1))
       (c .if4 .came)
 
-  population-is : c .before .before .survives .result ≡ true → c .if4 .population ≡ population (the-map (head-of b)) (st .args .km) (probe (block-of b))
+  population-is : c .before .before .survives .result ≡ true → c .if4 .population ≡ population (the-map (head-of b)) (begun .args .km) (probe (block-of b))
   population-is s =
       ⊎-elim
-      (λ w. w .9 ∙ w .7 .ensures
-      ∙ probe-people _ _ _ _ (st .pre .0) (block-of b) (rectangle b) (b .before .probe .result) (b .before .probe .ensures) _ (w .3 .exact)
+      (λ w. w .9 ∙ w .7 .ensures ∙ people b _ (w .3 .exact)
       (exact-is (record {
         before = record { before = record { before = record { before = c .before; if4 = w .0 }; same-row-arg = w .1 }; same-row = w .2 };
         if5 = w .3;
       })))
       (λ w. w .2 ∙ bound-is j
-      ∙ same-population (the-map (head-of b)) (j .if1 .wide) (st .args .km)
-      (of-true _ (not-asked _ (eq (j .if1 .wide) (st .args .km)) _ (c .before .asks .ensures) (w .0 .left) s)) (probe (block-of b)))
+      ∙ same-population (the-map (head-of b)) (j .if1 .wide) (begun .args .km)
+      (of-true _ (not-asked _ (eq (j .if1 .wide) (begun .args .km)) _ (c .before .asks .ensures) (w .0 .left) s)) (probe (block-of b)))
       (c .if4 .came)
 
 -- the block's work is the definition's
@@ -261,33 +261,25 @@ same-shape-requires : tie.Need-same-shape-requires Inv-loop μ-loop
 same-shape-requires c κs = search needs
 
 wide-kernel-requires : tie.Need-wide-kernel-requires Inv-loop μ-loop
-wide-kernel-requires c κs =
-    let b = c .before .before .before in
-    let t = start-of (head-of b) .pre .0 in
-    record { sheet = ready-sheet _ _ _ _ t; complete = ready-cosines _ _ _ _ t; rectangle = rectangle b }
+wide-kernel-requires c κs = can-widen (c .before .before .before)
 
 circle-population-requires : tie.Need-circle-population-requires Inv-loop μ-loop
 circle-population-requires c κs =
     let j = c .before .before .before in
     let b = j .before .before .before in
-    probe-placed _ _ _ _ (start-of (head-of b) .pre .0) (block-of b) (rectangle b) (b .before .probe .result) (b .before .probe .ensures) _ (j .if2 .one)
-    (wide-at _ _ (block-of b) (j .if2 .one) (one-wide j))
+    can-sum b _ (j .if2 .one) (wide-at _ _ (block-of b) (j .if2 .one) (one-now j .0))
 
 same-shape-requires-2 : tie.Need-same-shape-requires-2 Inv-loop μ-loop
 same-shape-requires-2 c κs = search needs
 
 wide-kernel-requires-2 : tie.Need-wide-kernel-requires-2 Inv-loop μ-loop
-wide-kernel-requires-2 c κs =
-    let b = c .before .before .before in
-    let t = start-of (head-of b) .pre .0 in
-    record { sheet = ready-sheet _ _ _ _ t; complete = ready-cosines _ _ _ _ t; rectangle = rectangle b }
+wide-kernel-requires-2 c κs = can-widen (c .before .before .before)
 
 circle-population-requires-2 : tie.Need-circle-population-requires-2 Inv-loop μ-loop
 circle-population-requires-2 c κs =
     let j = c .before .before .before in
     let b = j .before .before .before in
-    probe-placed _ _ _ _ (start-of (head-of b) .pre .0) (block-of b) (rectangle b) (b .before .probe .result) (b .before .probe .ensures) _ (j .if3 .two)
-    (wide-at _ _ (block-of b) (j .if3 .two) (two-wide j))
+    can-sum b _ (j .if3 .two) (wide-at _ _ (block-of b) (j .if3 .two) (two-now j .0))
 
 survives-requires : tie.Need-survives-requires Inv-loop μ-loop
 survives-requires c κs = search needs
@@ -311,7 +303,7 @@ circle-population-requires-3 : tie.Need-circle-population-requires-3 Inv-loop μ
 circle-population-requires-3 c κs =
     let j = c .before .before .before in
     let b = turn (asked (j .before)) in
-    probe-placed _ _ _ _ (start-of (head-of b) .pre .0) (block-of b) (rectangle b) (b .before .probe .result) (b .before .probe .ensures) _ (j .if5 .exact) (exact-is j)
+    can-sum b _ (j .if5 .exact) (exact-is j)
 
 examined-requires : tie.Need-examined-requires Inv-loop μ-loop
 examined-requires c κs =
@@ -345,14 +337,15 @@ loop-again c =
     let l = head-of b .loop in
     let s = e .before .before .before .survives .result in
     let word = b .before .before .from-word .ensures in
+    let wide = widened (e .before .before .before .before) in
     let wrote = c .before .before .write-children in (
       sweep-next _ _ _ _ _ _ _ _ _ _ _ (st .pre .0) (st .pre .1 .0) (st .pre .1 .1) (l .following) (l .work) (l .at) (l .i) (l .inv .0)
           (entered b .loop-test .taken) (e .examined .result) s
           (subst (λ (x : Block). (bs : List Block) → workOf (e .examined .result) (cond s (bs ++ x ∷ []) bs) ≡ examine (the-map (head-of b)) (st .args .km) (workOf (l .work) bs) x) word (seen e)) _ (wrote .result)
           (rw word at (wrote .ensures)),
       exact-after (e .before),
-      one-after (e .before .before .before .before),
-      two-after (e .before .before .before .before),
+      wide .1,
+      wide .2,
     )
 
 result-of-requires : tie.Need-result-of-requires Inv-loop μ-loop

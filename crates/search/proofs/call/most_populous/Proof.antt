@@ -3,8 +3,10 @@ use mathlib.Core.Path.{sym, _∙_}
 use denote.Ref.{now}
 use Rattle.grid.specs.Map.{Map, lentMap}
 use Rattle.grid.specs.Answer.{shown}
-use Rattle.search.specs.Call.{Buffers, buffers, searchAnswer}
-use Rattle.search.proofs.SearchCalls.{SearchPassed, search-passed, search-refused, search-answered, to-fill, to-search, sums-filled, searched-map}
+use Rattle.grid.proofs.Answers.{PassedCall}
+use Rattle.sums.proofs.Tables.{bare-filled}
+use Rattle.search.specs.Call.{Buffers, buffers, searchOwn, searchAnswer}
+use Rattle.search.proofs.SearchCalls.{search-passed, search-refused, search-answered, to-fill, to-search, searched-map}
 use borrow.Author.Needs.{needs}
 use Rattle.search.proofs.call.most_populous.Statement.{statement}
 use Rattle.search.proofs.call.most_populous.Tie as tie
@@ -26,7 +28,7 @@ given st = let a = st .args in lentMap (a .grid) (now (a .counts)) (now (a .angl
 abbrev lent : tie.Start → Buffers
 lent st = let a = st .args in buffers (now (a .sums)) (now (a .current)) (now (a .following))
 
-passed : (e : tie.Else1) → SearchPassed (given (start e)) (start e .args .spacing) (start e .args .km) (lent (start e))
+passed : (e : tie.Else1) → let st = start e in PassedCall (given st) (searchOwn (st .args .grid) (st .args .spacing) (st .args .km) (lent st))
 passed e = search-passed _ _ _ _ (sym (e .before .search-refusal .ensures) ∙ e .if1 .left)
 
 search-refusal-requires : tie.Need-search-refusal-requires
@@ -46,13 +48,14 @@ unfolding searchAnswer shown
 returns c = let q = c .before .search-refusal in search-refused _ _ _ _ (q .result) (q .ensures) (c .if1 .taken)
 
 fill-sums-requires : tie.Need-fill-sums-requires
-fill-sums-requires c κs = to-fill (passed (c .before))
+fill-sums-requires c κs = let p = passed (c .before) in to-fill _ _ (p .map) (p .yes 7 .0)
 
 search-at-requires : tie.Need-search-at-requires
 search-at-requires c κs =
     let f = filled c in
     let e = f .before .before in
-    to-search (passed e) _ (f .fill-sums .ensures) (λ i. counted e .shared-slice-known .given i .fits)
+    let p = passed e in
+    to-search _ _ (p .map) (p .yes 7 .0) _ (f .fill-sums .ensures) (λ i. counted e .shared-slice-known .given i .fits)
 
 same-length-4 : tie.Need-same-length-4
 same-length-4 c = search needs
@@ -70,8 +73,9 @@ returns-2 c =
     let found = s .search-at in
     let f = filled (s .before) in
     let e = f .before .before in
+    let p = passed e in
     search-answered _ _ _ _ (found .result) _ _ _ (sym (e .before .search-refusal .ensures) ∙ e .if1 .left)
-    (found .ensures ∙ searched-map (passed e) _ (f .fill-sums .ensures)) (sums-filled (passed e) _ (f .fill-sums .ensures)) (found .kept .1 .1 .1 .1 .0)
+    (found .ensures ∙ searched-map _ _ (p .map) (p .yes 7 .0) _ (f .fill-sums .ensures) _ _) (f .fill-sums .ensures ∙ bare-filled (given (start e)) _) (found .kept .1 .1 .1 .1 .0)
     (found .kept .1 .1 .1 .1 .1 .0)
 
 pub most-populous-spec : {M : Type 1} → statement M

@@ -4,9 +4,11 @@ use denote.Ref.{now}
 use borrow.Author.Needs.{needs}
 use Rattle.grid.specs.Answer.{firstNo, shown}
 use Rattle.grid.specs.Map.{Map, lentMap}
+use Rattle.grid.proofs.Answers.{PassedCall}
+use Rattle.sums.proofs.Tables.{bare-filled}
 use Rattle.search.specs.Call.{Buffers, buffers}
 use Rattle.smallest.specs.Call.{smallestQuestions, smallestAnswer}
-use Rattle.smallest.proofs.SmallestCalls.{SmallestPassed, smallest-passed, smallest-refused, smallest-answered, to-fill, to-settle, sums-filled, settled-map}
+use Rattle.smallest.proofs.SmallestCalls.{smallestOwn, smallest-passed, smallest-refused, smallest-answered, to-fill, to-settle, settled-map}
 use Rattle.smallest.proofs.call.smallest_radius.Statement.{statement}
 use Rattle.smallest.proofs.call.smallest_radius.Tie as tie
 
@@ -30,7 +32,7 @@ filled a = a .before .before .before .before .before
 asked-none : (e : tie.Else1) → firstNo (smallestQuestions (given (start e)) (start e .args .spacing) (start e .args .share) (start e .args .ledger) (lent (start e))) ≡ 0
 asked-none e = sym (e .before .smallest-refusal .ensures) ∙ e .if1 .left
 
-passed : (e : tie.Else1) → SmallestPassed (given (start e)) (start e .args .spacing) (start e .args .share) (start e .args .ledger) (lent (start e))
+passed : (e : tie.Else1) → let a = start e .args in PassedCall (given (start e)) (smallestOwn (a .grid) (a .spacing) (a .share) (a .ledger) (lent (start e)))
 passed e = smallest-passed _ _ _ _ _ (asked-none e)
 
 smallest-refusal-requires : tie.Need-smallest-refusal-requires
@@ -52,13 +54,13 @@ returns c =
     smallest-refused _ _ _ _ _ (asked .result) (asked .ensures) (c .if1 .taken)
 
 fill-sums-requires : tie.Need-fill-sums-requires
-fill-sums-requires c κs = to-fill (passed (c .before))
+fill-sums-requires c κs = to-fill _ _ _ _ _ (passed (c .before))
 
 settle-requires : tie.Need-settle-requires
 settle-requires c κs =
     let f = filled c in
     let e = f .before .before in
-    to-settle (passed e) _ (f .fill-sums .ensures) (λ i. counted e .shared-slice-known .given i .fits)
+    to-settle _ _ _ _ _ (passed e) _ (f .fill-sums .ensures) (λ i. counted e .shared-slice-known .given i .fits)
 
 same-length-4 : tie.Need-same-length-4
 same-length-4 c = search needs
@@ -74,8 +76,8 @@ returns-2 c =
     let r = c .before .before .before .before in
     let f = filled (r .before) in
     let e = f .before .before in
-    smallest-answered _ _ _ _ _ (r .settle .result) _ _ _ (asked-none e) (settled-map (passed e) _ (f .fill-sums .ensures) (r .settle .ensures))
-    (sums-filled (passed e) _ (f .fill-sums .ensures)) (search needs) (search needs)
+    smallest-answered _ _ _ _ _ (r .settle .result) _ _ _ (asked-none e) (settled-map _ _ _ _ _ (passed e) _ (f .fill-sums .ensures) (r .settle .ensures))
+    (f .fill-sums .ensures ∙ bare-filled (given (start e)) _) (search needs) (search needs)
 
 pub smallest-radius-spec : {M : Type 1} → statement M
 smallest-radius-spec =
