@@ -2,13 +2,13 @@
 use Prim.Native.Nat.{ℕ, _<_, _^_}
 use mathlib.Core.Path.{_≡_, refl, sym, ap, _∙_}
 use mathlib.Core.Bool.{true}
-use mathlib.Core.List.{List, _∷_}
+use mathlib.Core.List.{List}
 use lib.Ieee.{Float}
 use lib.ListN.{length, getD}
 use Rattle.floats.specs.Binary.{whole}
 use Rattle.grid.specs.declared.Grid.{Grid}
 use Rattle.grid.specs.Map.{Map, sheetOf}
-use Rattle.grid.specs.Answer.{Question, question, firstNo, refused, after, shown}
+use Rattle.grid.specs.Answer.{firstNo, refused, after, shown}
 use Rattle.grid.proofs.Answers.{PassedCall, map-then, decide-yes, decide-no}
 use Rattle.sums.specs.Sums.{total, filledSums}
 use Rattle.sums.specs.State.{countsMap, globeMap, tableMap}
@@ -16,7 +16,7 @@ use Rattle.sums.specs.Requires.{Fillable}
 use Rattle.sums.proofs.Tables.{bare-filled, bare-total, globe-map}
 use Rattle.bounds.specs.declared.Spacing.{Spacing}
 use Rattle.levels.specs.State.{summedMap}
-use Rattle.search.specs.Call.{Buffers, buffers, buffersFit, buffersAfter}
+use Rattle.search.specs.Call.{Buffers, buffers, buffersAfter}
 use Rattle.search.proofs.SearchCalls as searching
 use Rattle.search.proofs.SearchCalls.{to-search}
 use Rattle.ledger.specs.declared.Ledger.{Ledger}
@@ -33,15 +33,11 @@ use Rattle.probes.proofs.Ends.{answer-sheet}
 use Rattle.probes.proofs.Probes.{people-exact}
 use Rattle.smallest.specs.declared.SmallestResult.{SmallestResult}
 use Rattle.smallest.specs.declared.SmallestAnswer.the-variants.{Found}
-use Rattle.smallest.specs.Call.{smallestQuestions, smallestCall, smallestAnswer, smallestGave, ownQuestions}
+use Rattle.smallest.specs.Call.{ownQuestions, smallestOwn, smallestQuestions, smallestCall, smallestAnswer, smallestGave}
 use Rattle.smallest.specs.Requires.{CanSettle}
 use Rattle.smallest.specs.State.{IsSettled}
 
 -- ---- the questions
-
--- the questions of the call after the map's
-abbrev pub smallestOwn : Grid → Spacing → Float → Ledger → Buffers → List Question
-smallestOwn g spacing share l lent = question 7 (buffersFit g lent) ∷ ownQuestions g spacing share l
 
 module _ (m : Map) (spacing : Spacing) (share : Float) (l : Ledger) (lent : Buffers) where
   pub smallest-passed : firstNo (smallestQuestions m spacing share l lent) ≡ 0 → PassedCall m (smallestOwn (m .globe .grid) spacing share l lent)

@@ -24,9 +24,12 @@ unfoldable pub ownQuestions : Grid → Spacing → Float → Ledger → List Que
 ownQuestions g spacing share l =
     question 9 (shareInRange share) ∷ question 10 (spacingGiven spacing) ∷ question 11 (ledgerInOrder g l) ∷ question 12 (placesFree l mostRadii) ∷ []
 
+-- the questions of the call after the map's
+abbrev pub smallestOwn : Grid → Spacing → Float → Ledger → Buffers → List Question
+smallestOwn g spacing share l lent = question 7 (buffersFit g lent) ∷ ownQuestions g spacing share l
+
 unfoldable pub smallestQuestions : Map → Spacing → Float → Ledger → Buffers → List Question
-smallestQuestions m spacing share l lent =
-    let g = m .globe .grid in mapQuestions m ++ question 7 (buffersFit g lent) ∷ ownQuestions g spacing share l
+smallestQuestions m spacing share l lent = mapQuestions m ++ smallestOwn (m .globe .grid) spacing share l lent
 
 -- what the call gives: its answer, the ledger after it, and what it was lent as it leaves it
 pub record SmallestOutcome : Type 0 where

@@ -7,8 +7,8 @@ use Rattle.grid.specs.Map.{Map, lentMap}
 use Rattle.grid.proofs.Answers.{PassedCall}
 use Rattle.sums.proofs.Tables.{bare-filled}
 use Rattle.search.specs.Call.{Buffers, buffers}
-use Rattle.smallest.specs.Call.{smallestQuestions, smallestAnswer}
-use Rattle.smallest.proofs.SmallestCalls.{smallestOwn, smallest-passed, smallest-refused, smallest-answered, to-fill, to-settle, settled-map}
+use Rattle.smallest.specs.Call.{smallestOwn, smallestQuestions, smallestAnswer}
+use Rattle.smallest.proofs.SmallestCalls.{smallest-passed, smallest-refused, smallest-answered, to-fill, to-settle, settled-map}
 use Rattle.smallest.proofs.call.smallest_radius.Statement.{statement}
 use Rattle.smallest.proofs.call.smallest_radius.Tie as tie
 
