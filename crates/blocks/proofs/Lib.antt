@@ -5,4 +5,3 @@ pub mod Tiles
 pub mod Words
 pub mod Cuts
 pub mod TileWords
-pub mod InOrder

@@ -10,7 +10,8 @@ use borrow.Author.Tests.{leb-true, leb-false, eqb-true, eqb-false}
 use Rattle.lists.specs.Counted.{one}
 use Rattle.lists.specs.Lists.{each, concatEach}
 use Rattle.lists.proofs.Bools.{cond-case}
-use Rattle.lists.proofs.Elements.{AllOf, none, also, all-map, all-each, all-concat, total, total-append}
+use Rattle.lists.specs.Elements.{AllOf, none, also, totalOf}
+use Rattle.lists.proofs.Elements.{all-map, all-each, all-concat, total-append}
 use Rattle.blocks.specs.declared.Block.{Block}
 use Rattle.blocks.specs.Block.{Range, range, block, middle, steps, cross, halves}
 
@@ -111,29 +112,29 @@ middle-less low high h = omega arith
 -- ---- the pieces add up to the whole
 
 module _ (f : Range → ℕ) (a : Additive f) where
-  first-step : (low end high : ℕ) (rest : List Range) → low ≤ end → end ≤ high → total f rest ≡ f (range (end + 1) high)
-      → total f (range low end ∷ rest) ≡ f (range low high)
-  unfolding total
+  first-step : (low end high : ℕ) (rest : List Range) → low ≤ end → end ≤ high → totalOf f rest ≡ f (range (end + 1) high)
+      → totalOf f (range low end ∷ rest) ≡ f (range low high)
+  unfolding totalOf
   first-step low end high rest p q e = omega (arith, a .joins low end high p q)
 
-  no-step : (low high : ℕ) → high < low → total f [] ≡ f (range low high)
-  unfolding total
+  no-step : (low high : ℕ) → high < low → totalOf f [] ≡ f (range low high)
+  unfolding totalOf
   no-step low high h = sym (a .empty low high h)
 
-  pub steps-add : (fuel step low high : ℕ) → high + 1 ≤ fuel + low → total f (steps fuel step low high) ≡ f (range low high)
+  pub steps-add : (fuel step low high : ℕ) → high + 1 ≤ fuel + low → totalOf f (steps fuel step low high) ≡ f (range low high)
   unfolding steps
   steps-add zero step low high h = no-step low high (omega arith)
   steps-add (suc fuel) step low high h =
-      cond-case (λ (l : List Range). total f l ≡ f (range low high)) (leb low high) _ _
+      cond-case (λ (l : List Range). totalOf f l ≡ f (range low high)) (leb low high) _ _
       (λ e. let l = leb-true low high e in
       first-step low _ high _ (omega arith) (omega arith) (steps-add fuel step _ high (omega arith)))
       (λ e. no-step low high (leb-false low high e))
 
-  pub halves-add : (low high : ℕ) → low ≤ high → total f (halves low high) ≡ f (range low high)
-  unfolding halves total
+  pub halves-add : (low high : ℕ) → low ≤ high → totalOf f (halves low high) ≡ f (range low high)
+  unfolding halves totalOf
   halves-add low high h =
       let mid = middle low high in
-      cond-case (λ (l : List Range). total f l ≡ f (range low high)) (eqb low high) _ _
+      cond-case (λ (l : List Range). totalOf f l ≡ f (range low high)) (eqb low high) _ _
       (λ e. omega arith)
       (λ e. omega (arith, a .joins low mid high (middle-low low high) (middle-high low high h)))
 
@@ -142,16 +143,16 @@ abbrev pub times : (Range → ℕ) → (Range → ℕ) → Block → ℕ
 times rows cols b = cols (range (b .first .0) (b .last .0)) * rows (range (b .north .0) (b .south .0))
 
 -- over every range of rows with every range of columns: the product of the sums
-pub cross-times : (f g : Range → ℕ) (rows cols : List Range) → total (times f g) (cross rows cols) ≡ total g cols * total f rows
-unfolding cross concatEach each total
-cross-times f g [] cols = sym (mul-zero (total g cols))
+pub cross-times : (f g : Range → ℕ) (rows cols : List Range) → totalOf (times f g) (cross rows cols) ≡ totalOf g cols * totalOf f rows
+unfolding cross concatEach each totalOf
+cross-times f g [] cols = sym (mul-zero (totalOf g cols))
 cross-times f g (r ∷ rows) cols =
-    total-append (times f g) (each (block r) cols) (cross rows cols) ∙ ap (λ (n : ℕ). n + total (times f g) (cross rows cols)) (row cols)
-    ∙ ap (λ (n : ℕ). total g cols * f r + n) (cross-times f g rows cols) ∙ sym (mul-add (total g cols) (f r) (total f rows))
+    total-append (times f g) (each (block r) cols) (cross rows cols) ∙ ap (λ (n : ℕ). n + totalOf (times f g) (cross rows cols)) (row cols)
+    ∙ ap (λ (n : ℕ). totalOf g cols * f r + n) (cross-times f g rows cols) ∙ sym (mul-add (totalOf g cols) (f r) (totalOf f rows))
   where
-    row : (cs : List Range) → total (times f g) (each (block r) cs) ≡ total g cs * f r
+    row : (cs : List Range) → totalOf (times f g) (each (block r) cs) ≡ totalOf g cs * f r
     row [] = sym (zero-mul (f r))
-    row (c ∷ cs) = ap (λ (n : ℕ). g c * f r + n) (row cs) ∙ sym (add-mul (g c) (total g cs) (f r))
+    row (c ∷ cs) = ap (λ (n : ℕ). g c * f r + n) (row cs) ∙ sym (add-mul (g c) (totalOf g cs) (f r))
 
 -- ---- the pieces stay inside
 

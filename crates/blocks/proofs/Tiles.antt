@@ -13,7 +13,8 @@ use borrow.Author.Tests.{eqb-true, eqb-false}
 use Rattle.lists.specs.Counted.{one}
 use Rattle.lists.proofs.Bools.{cond-case, cases, and-left, and-right}
 use Rattle.lists.proofs.Sums.{times-le}
-use Rattle.lists.proofs.Elements.{AllOf, none, also, AnyOf, here, there, all-map, any-map, total}
+use Rattle.lists.specs.Elements.{AllOf, none, also, totalOf}
+use Rattle.lists.proofs.Elements.{AnyOf, here, there, all-map, any-map}
 use Rattle.grid.specs.declared.Cell.{Cell}
 use Rattle.grid.specs.declared.Grid.{Grid}
 use Rattle.grid.specs.Grid.{onGrid, cells}
@@ -26,8 +27,8 @@ use Rattle.blocks.proofs.Ranges.{Additive, size, size-additive, having,
 
 module _ {A : Type 0} (f : A → ℕ) where
   -- where the sum is above 0 some element's share is
-  any-positive : (xs : List A) → 1 ≤ total f xs → AnyOf (λ x. 1 ≤ f x) xs
-  unfolding total
+  any-positive : (xs : List A) → 1 ≤ totalOf f xs → AnyOf (λ x. 1 ≤ f x) xs
+  unfolding totalOf
   any-positive [] h = absurd (omega arith)
   any-positive (x ∷ xs) h = elim (decLt 0 (f x)) [
     | yes p ↦ here p
@@ -35,8 +36,8 @@ module _ {A : Type 0} (f : A → ℕ) where
   ]
 
   -- where each share is above 0 there are at most as many elements
-  length-total : {xs : List A} → AllOf (λ x. 1 ≤ f x) xs → length xs ≤ total f xs
-  unfolding total
+  length-total : {xs : List A} → AllOf (λ x. 1 ≤ f x) xs → length xs ≤ totalOf f xs
+  unfolding totalOf
   length-total none = omega arith
   length-total (also p a) = omega (arith, length-total a)
 
@@ -44,19 +45,19 @@ module _ {A : Type 0} (f : A → ℕ) where
 
 module _ (f h : Range → ℕ) (a : Additive f) (b : Additive h) where
   tile-times : (g : Grid) (spacing : ℕ) → 1 ≤ g .width → 1 ≤ g .height
-      → total (times f h) (tile g spacing) ≡ h (range 0 (g .width - 1)) * f (range 0 (g .height - 1))
+      → totalOf (times f h) (tile g spacing) ≡ h (range 0 (g .width - 1)) * f (range 0 (g .height - 1))
   unfolding tile
   tile-times g spacing w k =
       cross-times f h (steps (g .height) spacing 0 (g .height - 1)) (steps (g .width) spacing 0 (g .width - 1))
       ∙ ap₂ _*_ (steps-add h b (g .width) spacing 0 (g .width - 1) (omega arith)) (steps-add f a (g .height) spacing 0 (g .height - 1) (omega arith))
 
   children-times : (c : Block) → c .north .0 ≤ c .south .0 → c .first .0 ≤ c .last .0
-      → total (times f h) (cross (halves (c .north .0) (c .south .0)) (halves (c .first .0) (c .last .0))) ≡ times f h c
+      → totalOf (times f h) (cross (halves (c .north .0) (c .south .0)) (halves (c .first .0) (c .last .0))) ≡ times f h c
   children-times c r k =
       cross-times f h (halves (c .north .0) (c .south .0)) (halves (c .first .0) (c .last .0))
       ∙ ap₂ _*_ (halves-add h b (c .first .0) (c .last .0) k) (halves-add f a (c .north .0) (c .south .0) r)
 
-  split-times : (g : Grid) (c : Block) → Rectangle g c → isCell c ≡ false → total (times f h) (split c) ≡ times f h c
+  split-times : (g : Grid) (c : Block) → Rectangle g c → isCell c ≡ false → totalOf (times f h) (split c) ≡ times f h c
   unfolding split
   split-times g c r e = rw e (children-times c (r .rows) (r .columns))
 
@@ -66,12 +67,12 @@ area-times : area ≡ times size size
 unfolding area
 area-times = refl
 
-pub tile-area : (g : Grid) (spacing : ℕ) → 1 ≤ g .width → 1 ≤ g .height → total area (tile g spacing) ≡ cells g
+pub tile-area : (g : Grid) (spacing : ℕ) → 1 ≤ g .width → 1 ≤ g .height → totalOf area (tile g spacing) ≡ cells g
 unfolding cells
 tile-area g spacing w h =
     rw area-times (tile-times size size size-additive size-additive g spacing w h ∙ ap₂ _*_ (omega arith) (omega arith))
 
-pub split-area : (g : Grid) (b : Block) → Rectangle g b → isCell b ≡ false → total area (split b) ≡ area b
+pub split-area : (g : Grid) (b : Block) → Rectangle g b → isCell b ≡ false → totalOf area (split b) ≡ area b
 split-area g b r e = rw area-times (split-times size size size-additive size-additive g b r e)
 
 pub area-cell : (b : Block) → isCell b ≡ true → area b ≡ 1
@@ -88,19 +89,19 @@ unfolding split
 split-cell b e = rw e
 
 -- a block's cells are its children's, or it is the one cell that is settled
-pub split-settled : (g : Grid) (b : Block) → Rectangle g b → total area (split b) + one (isCell b) ≡ area b
-unfolding one total
+pub split-settled : (g : Grid) (b : Block) → Rectangle g b → totalOf area (split b) + one (isCell b) ≡ area b
+unfolding one totalOf
 split-settled g b r =
     cases (isCell b)
     (λ e. rw (split-cell b e, e, area-cell b e))
-    (λ e. rw e (add-zero (total area (split b)) ∙ split-area g b r e))
+    (λ e. rw e (add-zero (totalOf area (split b)) ∙ split-area g b r e))
 
 pub area-positive : (g : Grid) (b : Block) → Rectangle g b → 1 ≤ area b
 unfolding area
 area-positive g b r = times-le 1 1 (b .last .0 + 1 - b .first .0) (b .south .0 + 1 - b .north .0) (omega arith) (omega arith)
 
 -- there are at most as many rectangles as they have cells
-pub length-area : (g : Grid) {bs : List Block} → AllOf (Rectangle g) bs → length bs ≤ total area bs
+pub length-area : (g : Grid) {bs : List Block} → AllOf (Rectangle g) bs → length bs ≤ totalOf area bs
 length-area g a = length-total area (all-map (area-positive g) a)
 
 -- ---- every cell in exactly one
@@ -131,10 +132,10 @@ of-holding x b h =
     record { north = rows .low; south = rows .high; first = cols .low; last = cols .high }
 
 -- of a list of blocks some one holds the cell
-pub held-by : (x : Cell) (bs : List Block) → 1 ≤ total (holding x) bs → AnyOf (λ b. Holds b x) bs
+pub held-by : (x : Cell) (bs : List Block) → 1 ≤ totalOf (holding x) bs → AnyOf (λ b. Holds b x) bs
 held-by x bs h = any-map (of-holding x) (any-positive (holding x) bs h)
 
-pub tile-once : (g : Grid) (spacing : ℕ) (x : Cell) → T (onGrid g x) → total (holding x) (tile g spacing) ≡ 1
+pub tile-once : (g : Grid) (spacing : ℕ) (x : Cell) → T (onGrid g x) → totalOf (holding x) (tile g spacing) ≡ 1
 unfolding holding
 tile-once g spacing x t =
     let on = on-grid g x t in
@@ -145,7 +146,7 @@ tile-once g spacing x t =
 pub tile-cover : (g : Grid) (spacing : ℕ) (x : Cell) → T (onGrid g x) → AnyOf (λ b. Holds b x) (tile g spacing)
 tile-cover g spacing x t = held-by x (tile g spacing) (omega (arith, tile-once g spacing x t))
 
-pub split-once : (g : Grid) (b : Block) → Rectangle g b → isCell b ≡ false → (x : Cell) → total (holding x) (split b) ≡ holding x b
+pub split-once : (g : Grid) (b : Block) → Rectangle g b → isCell b ≡ false → (x : Cell) → totalOf (holding x) (split b) ≡ holding x b
 unfolding holding
 split-once g b r e x =
     split-times (having (x .row .0)) (having (x .col .0)) (having-additive (x .row .0)) (having-additive (x .col .0)) g b r e

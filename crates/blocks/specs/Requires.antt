@@ -1,12 +1,10 @@
 -- What the functions on blocks and their buffers ask: numbers that a word can hold, and room for what they write.
 use Prim.Native.Nat.{ℕ, _+_, _≤_, _<_}
-use mathlib.Core.Path.{_≡_}
 use mathlib.Core.List.{List}
-use lib.ListN.{length, take}
-use Rattle.lists.specs.Lists.{sort}
+use lib.ListN.{length}
 use Rattle.blocks.specs.declared.Block.{Block}
 use Rattle.blocks.specs.Block.{split}
-use Rattle.blocks.specs.State.{base, wordsByProbe, columnHalves}
+use Rattle.blocks.specs.State.{base, columnHalves}
 
 -- a block whose four numbers a word can hold
 pub record Small (b : Block) : Type 0 where
@@ -25,13 +23,3 @@ pub record CanHalve (b : Block) (l : List ℕ) (at : ℕ) : Type 0 where
   pub first : b .first .0 < base
   pub last : b .last .0 < base
   pub room : at + length (columnHalves b) ≤ length l
-
--- n words to take, and room for them
-pub record CanTake (n : ℕ) (from to : List ℕ) : Type 0 where
-  pub words : n ≤ length from
-  pub room : n ≤ length to
-
--- a front of k words that is in probe order, and room for the words xs among them
-pub record CanJoin (to : List ℕ) (k : ℕ) (xs : List ℕ) : Type 0 where
-  pub room : k + length xs ≤ length to
-  pub front : sort wordsByProbe (take k to) ≡ take k to

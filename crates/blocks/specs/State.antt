@@ -1,14 +1,13 @@
 -- A block as a word of four 16-bit numbers, the form in which a level's buffer holds it, and what becomes of such a buffer.
-use Prim.Native.Nat.{ℕ, _+_, _-_, _*_, _/_, _≤_, _<_, _%_}
+use Prim.Native.Nat.{ℕ, _+_, _-_, _*_, _/_, _%_}
 use mathlib.Core.Path.{_≡_}
-use mathlib.Core.Bool.{Bool, cond, not}
-use mathlib.Core.List.{List, _++_}
-use lib.Dec.{eqb}
+use mathlib.Core.Bool.{Bool}
+use mathlib.Core.List.{List}
 use lib.ListN.{length, take}
-use Rattle.lists.specs.Lists.{each, sort}
+use Rattle.lists.specs.Lists.{each}
 use Rattle.lists.specs.Front.{onto, writtenAt}
 use Rattle.blocks.specs.declared.Block.{Block}
-use Rattle.blocks.specs.Block.{Range, range, block, probe, byProbe, steps, halves}
+use Rattle.blocks.specs.Block.{Range, range, block, byProbe, steps, halves}
 
 -- ---- words
 
@@ -38,14 +37,6 @@ blocksOf n words = each blockOf (take n words)
 unfoldable pub wordsByProbe : ℕ → ℕ → Bool
 wordsByProbe v w = byProbe (blockOf v) (blockOf w)
 
--- the row of a word's probe
-unfoldable pub probeRow : ℕ → ℕ
-probeRow w = probe (blockOf w) .row .0
-
--- a word's probe is on a row; where own is false, it is on another
-unfoldable pub onRow : ℕ → Bool → ℕ → Bool
-onRow row own w = let on = eqb (probeRow w) row in cond own on (not on)
-
 -- a block with its columns halved, its rows as they are
 unfoldable pub columnHalves : Block → List Block
 columnHalves b = each (block (range (b .north .0) (b .south .0))) (halves (b .first .0) (b .last .0))
@@ -65,13 +56,3 @@ pub record Written (l : List ℕ) (at : ℕ) (xs l′ : List ℕ) (next : ℕ) :
 pub record Tiled (l xs l′ : List ℕ) (n : ℕ) : Type 0 where
   pub number : n ≡ length xs
   pub words : l′ ≡ onto xs l
-
--- what becomes of a buffer by putting xs among the k words at its front, in probe order: the buffer to′, and how many are in order
-pub record Inserted (to : List ℕ) (k : ℕ) (xs to′ : List ℕ) (k′ : ℕ) : Type 0 where
-  pub number : k′ ≡ k + length xs
-  pub words : to′ ≡ onto (sort wordsByProbe (take k to ++ xs)) to
-
--- a stretch of the first n words: one at least
-pub record Stretch (i end n : ℕ) : Type 0 where
-  pub some : i < end
-  pub words : end ≤ n

@@ -1,6 +1,5 @@
-// Blocks, the rectangles of centres that a search works on: their cells, their words, their pieces and their order.
+// Blocks, the rectangles of centres that a search works on: their cells, their words and their pieces.
 mod cells;
-mod order;
 mod pieces;
 mod word;
 
@@ -11,11 +10,11 @@ pub use cells::probe;
 pub use cells::same_shape;
 use grid::Col;
 use grid::Row;
-pub use order::insert_from;
 pub use pieces::split;
 pub use pieces::tile;
 pub use word::from_word;
 pub use word::to_word;
+pub use word::words_by_probe;
 
 // All cells from row north to row south and from column first to column last. A block never goes across the seam, though the circles around
 // its cells do: so its columns are the numbers from first to last, there is one block only for the same cells, and the last tile of a row

@@ -4,7 +4,7 @@ use mathlib.Core.Path.{_≡_, refl}
 use mathlib.Core.Bool.{Bool, true, false, cond}
 use native.Mathlib.Omega.{arith}
 use lib.IntN.{pos}
-use lib.Dec.{T, lit≤}
+use lib.Dec.{T}
 use lib.Ieee.{Float, nan, inf, fin, binary64, ofBits, le, fits}
 use lib.Ieee.Fits.{add-fits, ofInt-fits}
 use lib.Ieee.Exact.{HasValue}
@@ -22,6 +22,7 @@ use Rattle.lists.proofs.Bools.{of-true, cond-case}
 use Rattle.grid.specs.Numbers.{largest}
 use Rattle.grid.specs.Grid.{ceiling}
 use Rattle.grid.specs.Map.{Globe, Map}
+use Rattle.grid.proofs.Body.{ceiling-most}
 use Rattle.grid.proofs.SheetOrder.{InOrder}
 use Rattle.sums.specs.Sums.{total}
 use Rattle.kernel.proofs.Populations.{population-all}
@@ -111,7 +112,7 @@ probe-row s b o = omega (arith, o .rows, o .south)
 
 -- at the ceiling the bound is all people
 pub bound-ceiling : (m : Map) → InOrder (m .globe) → (b : Block) → Rectangle (m .globe .grid) b → bound m (whole (ceiling (m .globe .grid))) b ≡ total m
-unfolding bound ceiling
+unfolding bound
 bound-ceiling m q b o =
     let km = ceiling (m .globe .grid) in
-    population-all m q (wideKm (m .globe) (whole km) b) (wide-grows (m .globe) b km (lit≤ tt)) (probe b) (probe-row (m .globe) b o)
+    population-all m q (wideKm (m .globe) (whole km) b) (wide-grows (m .globe) b km (omega (arith, ceiling-most (m .globe .grid)))) (probe b) (probe-row (m .globe) b o)

@@ -11,7 +11,8 @@ use lib.ListN.{length}
 use borrow.Author.Tests.{ltb-true, ltb-false}
 use Rattle.lists.specs.Lists.{fold}
 use Rattle.lists.proofs.Bools.{cond-case}
-use Rattle.lists.proofs.Elements.{AllOf, none, also, AnyOf, here, there, Distinct, empty, new, all-map}
+use Rattle.lists.specs.Elements.{AllOf, none, also}
+use Rattle.lists.proofs.Elements.{AnyOf, here, there, Distinct, empty, new, all-map}
 use Rattle.climb.specs.Climb.{climbRadii, Ended, allShort, reachedAt, bisect, climb}
 use Rattle.climb.proofs.Radii.{Steps, climb-steps}
 

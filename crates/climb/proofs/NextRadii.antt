@@ -9,19 +9,26 @@ use native.Mathlib.Nat.{two-pow-succ}
 use lib.Dec.{leb, ltb}
 use borrow.Author.Tests.{ltb-true, ltb-false, leb-true, leb-false, lt-ltb, le-ltb}
 use Rattle.lists.proofs.Bools.{cases}
+use Rattle.grid.specs.declared.RadiusKm.{RadiusKm}
+use Rattle.grid.proofs.Body.{ceiling-most}
 use Rattle.climb.specs.declared.Bracket.{Bracket}
+use Rattle.climb.specs.Requires.{CanGoOn}
 use Rattle.climb.specs.Climb.{doublings, climbRadii, Ended, allShort, reachedAt, bisect, climb}
 use Rattle.climb.specs.State.{bracketAt, bracketStart, bracketClosed, nextRadius, bracketNext}
 use Rattle.climb.proofs.Radii.{Steps, climb-steps}
 
 -- ---- the next bracket, by what the code tests
 
+-- the kilometre after the next radius is at most the ceiling
+pub next-fits : {last : RadiusKm} {c : Bracket} → CanGoOn last c → {km : ℕ} → km ≡ nextRadius c → km + 1 < 2 ^ 32
+next-fits can e = omega (arith, can .within, can .below, ceiling-most (can .grid))
+
 module _ (last : ℕ) (c : Bracket) (r : Bool) (km : ℕ) (k : km ≡ nextRadius c) where
-  pub next-reached : r ≡ true → bracketAt (c .low) km true ≡ bracketNext last c r
+  pub next-reached : r ≡ true → bracketAt (c .low .0) km true ≡ bracketNext last c r
   unfolding bracketNext
   next-reached e = rw (← k, e)
 
-  pub next-bisected : r ≡ false → c .reached ≡ true → bracketAt (km + 1) (c .high) true ≡ bracketNext last c r
+  pub next-bisected : r ≡ false → c .reached ≡ true → bracketAt (km + 1) (c .high .0) true ≡ bracketNext last c r
   unfolding bracketNext
   next-bisected e f = rw (← k, e, f)
 
@@ -94,7 +101,7 @@ StageAt cap n fuel low high true = Bisecting cap n fuel low high
 StageAt cap n fuel low high false = Climbing cap n fuel low high
 
 abbrev pub Stage : ℕ → ℕ → ℕ → Bracket → Type 0
-Stage cap n fuel c = StageAt cap n fuel (c .low) (c .high) (c .reached)
+Stage cap n fuel c = StageAt cap n fuel (c .low .0) (c .high .0) (c .reached)
 
 pub stage-start : (cap : ℕ) → 1 ≤ cap → cap ≤ 20015 → Stage cap 0 15 bracketStart
 unfolding bracketStart
@@ -103,7 +110,7 @@ stage-start cap l h = upward (rw (from-start cap l h) (climb-steps cap l h))
 -- a bracket that is not closed: the next radius, and a probe more is within the 28
 pub stage-open : (cap n fuel : ℕ) (c : Bracket) → Stage cap n fuel c → bracketClosed c ≡ false → (nextRadius c ≤ cap) × (n < 28)
 unfolding bracketClosed nextRadius
-stage-open cap n fuel c st o = go (c .low) (c .high) (c .reached) st o
+stage-open cap n fuel c st o = go (c .low .0) (c .high .0) (c .reached) st o
   where
     go : (low high : ℕ) (r : Bool) → StageAt cap n fuel low high r → cond r (leb high low) (ltb high low) ≡ false
         → (cond r (low + (high - low) / 2) high ≤ cap) × (n < 28)
@@ -131,7 +138,7 @@ module _ {S F : Type 0} (probed : S → ℕ → S) (latest : S → F) (reaches :
 
   -- from a bracket on: the bisection, or the climb, unless it is past the last radius
   unfoldable pub left : ℕ → Bracket → S → F → Ended S F
-  left fuel c s found = leftAt fuel (c .low) (c .high) (c .reached) s found
+  left fuel c s found = leftAt fuel (c .low .0) (c .high .0) (c .reached) s found
 
   pub left-start : 1 ≤ cap → cap ≤ 20015 → (s : S) (found : F) → left 15 bracketStart s found ≡ climb probed latest reaches s 0 (climbRadii cap)
   unfolding left leftAt bracketStart
@@ -212,7 +219,7 @@ module _ {S F : Type 0} (probed : S → ℕ → S) (latest : S → F) (reaches :
     -- ONE PROBE ON: what is left is what was left, and one radius fewer
     pub stage-next : (c : Bracket) (b : Bool) → Stage cap n fuel c → bracketClosed c ≡ false → reaches (latest (probed s (nextRadius c))) ≡ b → Next n fuel c s found b
     unfolding left bracketNext nextRadius bracketClosed
-    stage-next c b st o t = go fuel (c .low) (c .high) (c .reached) b st o t
+    stage-next c b st o t = go fuel (c .low .0) (c .high .0) (c .reached) b st o t
       where
         go : (fuel low high : ℕ) (r b : Bool) → StageAt cap n fuel low high r → bracketClosed (bracketAt low high r) ≡ false
             → reaches (latest (probed s (nextRadius (bracketAt low high r)))) ≡ b → Next n fuel (bracketAt low high r) s found b
@@ -229,9 +236,9 @@ module _ {S F : Type 0} (probed : S → ℕ → S) (latest : S → F) (reaches :
             none (suc j) e w = omega arith
 
     -- a bracket that is closed: at its low end
-    pub left-reached : (c : Bracket) → Stage cap n fuel c → bracketClosed c ≡ true → c .reached ≡ true → left fuel c s found ≡ reachedAt s (c .low) found
+    pub left-reached : (c : Bracket) → Stage cap n fuel c → bracketClosed c ≡ true → c .reached ≡ true → left fuel c s found ≡ reachedAt s (c .low .0) found
     unfolding left leftAt bisect bracketClosed
-    left-reached c st o e = go fuel (c .low) (c .high) (c .reached) st o e
+    left-reached c st o e = go fuel (c .low .0) (c .high .0) (c .reached) st o e
       where
         go : (fuel low high : ℕ) (r : Bool) → StageAt cap n fuel low high r → cond r (leb high low) (ltb high low) ≡ true → r ≡ true
             → leftAt fuel low high r s found ≡ reachedAt s low found
@@ -244,9 +251,9 @@ module _ {S F : Type 0} (probed : S → ℕ → S) (latest : S → F) (reaches :
             closed (suc fuel) high = rw (le-ltb high high (omega arith))
         go fuel low high false st o e = absurd (true≢false (sym e))
 
-    pub left-short : (c : Bracket) → Stage cap n fuel c → bracketClosed c ≡ true → c .reached ≡ false → (left fuel c s found ≡ allShort s) × (c .low ≡ cap + 1)
+    pub left-short : (c : Bracket) → Stage cap n fuel c → bracketClosed c ≡ true → c .reached ≡ false → (left fuel c s found ≡ allShort s) × (c .low .0 ≡ cap + 1)
     unfolding left leftAt bracketClosed
-    left-short c st o e = go (c .low) (c .high) (c .reached) st o e
+    left-short c st o e = go (c .low .0) (c .high .0) (c .reached) st o e
       where
         go : (low high : ℕ) (r : Bool) → StageAt cap n fuel low high r → cond r (leb high low) (ltb high low) ≡ true → r ≡ false
             → (leftAt fuel low high r s found ≡ allShort s) × (low ≡ cap + 1)

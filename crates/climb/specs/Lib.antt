@@ -1,2 +1,3 @@
 pub mod Climb
 pub mod State
+pub mod Requires

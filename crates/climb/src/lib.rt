@@ -6,9 +6,11 @@
 // fell short, since that one and all below it are ruled out (at 0 if none fell short), and ends at the radius that reached.
 mod next;
 
+use grid::RadiusKm;
+
 // Every kilometre below low fell short. While none has reached, high is the next one to probe; afterwards it is the lowest that has.
 pub struct Bracket {
-    pub low: u32,
-    pub high: u32,
+    pub low: RadiusKm,
+    pub high: RadiusKm,
     pub reached: bool,
 }

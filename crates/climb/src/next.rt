@@ -1,35 +1,41 @@
 // The radii of the climb and the bisection, each decided by whether the one before reached.
 use crate::Bracket;
+use grid::RadiusKm;
 ghost use mathlib.Core.Path.{_≡_};
-ghost use Prim.Native.Nat.{_+_, _-_, _*_, _/_, _<_, _^_, min};
+ghost use Prim.Native.Nat.{_+_, _-_, _*_, _/_, min};
 ghost use lib.Dec.{ltb};
+ghost use Rattle.climb.specs.Requires.{CanGoOn};
 ghost use Rattle.climb.specs.State.{bracketStart, bracketClosed, nextRadius, bracketNext};
 
 // Twice the kilometre, at most the last one.
-fn doubled(km: u32, last: u32) -> u32
-    ensures { λ r. ⌜ r ≡ min (2 * km) last ⌝ }
+fn doubled(km: RadiusKm, last: RadiusKm) -> RadiusKm
+    ensures { λ r. ⌜ r .0 ≡ min (2 * km .0) (last .0) ⌝ }
 {
-    if last <= km {
+    if last.0 <= km.0 {
         return last;
     }
-    if km < last - km { km + km } else { last }
+    if km.0 < last.0 - km.0 {
+        RadiusKm(km.0 + km.0)
+    } else {
+        last
+    }
 }
 
 // The kilometre halfway from low to high, rounded down.
-fn middle(low: u32, high: u32) -> u32
-    ensures { λ r. ⌜ r ≡ low + (high - low) / 2 ⌝ }
+fn middle(low: RadiusKm, high: RadiusKm) -> RadiusKm
+    ensures { λ r. ⌜ r .0 ≡ low .0 + (high .0 - low .0) / 2 ⌝ }
 {
-    if low < high {
-        low + (high - low) / 2
+    if low.0 < high.0 {
+        RadiusKm(low.0 + (high.0 - low.0) / 2)
     } else {
         low
     }
 }
 
-fn below(low: u32, high: u32) -> bool
-    ensures { λ r. ⌜ r ≡ ltb low high ⌝ }
+fn below(low: RadiusKm, high: RadiusKm) -> bool
+    ensures { λ r. ⌜ r ≡ ltb (low .0) (high .0) ⌝ }
 {
-    low < high
+    low.0 < high.0
 }
 
 impl Bracket {
@@ -38,8 +44,8 @@ impl Bracket {
         ensures { λ r. ⌜ r ≡ bracketStart ⌝ }
     {
         Bracket {
-            low: 0,
-            high: 1,
+            low: RadiusKm(0),
+            high: RadiusKm(1),
             reached: false,
         }
     }
@@ -49,15 +55,15 @@ impl Bracket {
         ensures { λ r. ⌜ r ≡ bracketClosed self ⌝ }
     {
         if self.reached {
-            self.high <= self.low
+            self.high.0 <= self.low.0
         } else {
             below(self.high, self.low)
         }
     }
 
     // The next kilometre to probe.
-    pub fn radius(self) -> u32
-        ensures { λ r. ⌜ r ≡ nextRadius self ⌝ }
+    pub fn radius(self) -> RadiusKm
+        ensures { λ r. ⌜ r .0 ≡ nextRadius self ⌝ }
     {
         if self.reached {
             middle(self.low, self.high)
@@ -66,28 +72,31 @@ impl Bracket {
         }
     }
 
-    // What is known after the probe of the next kilometre, where last is the last radius of the climb.
-    pub fn next(self, last: u32, reached: bool) -> Bracket
-        requires { ⌜ nextRadius self + 1 < 2 ^ 32 ⌝ }
-        ensures { λ r. ⌜ r ≡ bracketNext last self reached ⌝ }
+    // What is known after the probe of the next kilometre, where last is the last radius of the climb: no radius is past the one after it,
+    // which is the ceiling.
+    pub fn next(self, last: RadiusKm, reached: bool) -> Bracket
+        requires { ⌜ CanGoOn last self ⌝ }
+        ensures { λ r. ⌜ r ≡ bracketNext (last .0) self reached ⌝ }
     {
+        let low = self.low;
+        let high = self.high;
         let km = self.radius();
         if reached {
             return Bracket {
-                low: self.low,
+                low,
                 high: km,
                 reached: true,
             };
         }
         if self.reached {
             return Bracket {
-                low: km + 1,
-                high: self.high,
+                low: RadiusKm(km.0 + 1),
+                high,
                 reached: true,
             };
         }
         Bracket {
-            low: km + 1,
+            low: RadiusKm(km.0 + 1),
             high: doubled(km, last),
             reached: false,
         }

@@ -9,14 +9,15 @@ use lib.Dec.{T, eqb}
 use lib.Ieee.{Float, le}
 use borrow.Author.Tests.{eqb-true, eq-eqb}
 use Rattle.lists.proofs.Bools.{is-true, of-true, of-false, not-both, is-false, and-both, and-left, cond-case}
-use Rattle.lists.proofs.Elements.{AllOf, also, AnyOf, here, there}
+use Rattle.lists.specs.Elements.{AllOf, also}
+use Rattle.lists.proofs.Elements.{AnyOf, here, there}
 use Rattle.floats.specs.Binary.{whole}
 use Rattle.floats.proofs.Order.{le-trans}
 use Rattle.floats.proofs.Whole.{whole-le}
 use Rattle.grid.specs.declared.Cell.{Cell}
 use Rattle.grid.specs.Grid.{ceiling, onGrid}
 use Rattle.grid.specs.Map.{Map}
-use Rattle.grid.proofs.Ceiling.{ceiling-least}
+use Rattle.grid.proofs.Body.{ceiling-least}
 use Rattle.kernel.specs.Circle.{population}
 use Rattle.bounds.specs.declared.Spacing.{Spacing}
 use Rattle.candidates.specs.declared.Candidate.{Candidate}
@@ -26,12 +27,11 @@ use Rattle.ledger.specs.declared.Ledger.{Ledger}
 use Rattle.climb.specs.Climb.{Ended, allShort, reachedAt}
 use Rattle.climb.proofs.Climb.{FoundAt, ShortBelow, UpTo, after-keeps, findings}
 use Rattle.share.specs.Target.{reaches}
-use Rattle.probes.specs.Probes.{mostRadii, Probe, Run, targetPersons, probed, latest, smallestRun, evaluatedIn}
+use Rattle.probes.specs.Probes.{Probe, Run, targetPersons, probed, latest, smallestRun, evaluatedIn}
 use Rattle.probes.specs.Smallest.{Settled, shortBelow, smallestAt, concluded, smallest}
-use Rattle.probes.proofs.States.{starting, counted-once}
-use Rattle.probes.proofs.RunLoop.{lastKm}
+use Rattle.probes.proofs.States.{starting}
+use Rattle.probes.proofs.Traces.{lastKm, findingOf, WalkedTo, walked-any, RunEnds, smallest-ends}
 use Rattle.demand.specs.Demand3.{Accepted, BestCandidate, Witnessed, traceOf}
-use Rattle.demand.proofs.Traces.{findingOf, WalkedTo, walked-any, walked-few, RunEnds, smallest-ends}
 use Rattle.demand.proofs.Runs.{BestLedger, BestProbe, BestRun, begun, probed-best}
 
 -- ---- from best probes
@@ -86,7 +86,6 @@ pub record SettledRight (m : Map) (l : Ledger) (share : Float) (ps : List Probe)
       → T (not (le (targetPersons m share) (whole (population m (whole (s .answer .«radius_km» .0 - 1)) x))))
   pub witness : 1 ≤ s .answer .«radius_km» .0 → Witnessed m (s .answer .«radius_km» .0 - 1) (s .answer .«short_below»)
   pub evaluated : s .answer .stats .«radii_evaluated» ≡ evaluatedIn ps
-  pub bounded : s .answer .stats .«radii_evaluated» + s .answer .stats .«radii_reused» ≤ mostRadii
   pub run : BestRun m l (record { trace = ps; ledger = s .ledger })
 
 module _ (m : Map) (a : Accepted m) (spacing : Spacing) (share : Float) (l : Ledger) (sound : BestLedger m l)
@@ -113,7 +112,6 @@ module _ (m : Map) (a : Accepted m) (spacing : Spacing) (share : Float) (l : Led
         short = λ u. short-all m (targetPersons m share) km (r .trace) (walked-any m spacing l r kms w (below u)) (s .probes);
         witness = λ u. witnessed m (targetPersons m share) km (r .trace) (walked-any m spacing l r kms w (below u)) (s .probes);
         evaluated = refl;
-        bounded = omega (arith, counted-once (r .trace), walked-few m spacing l r kms w);
         run = s;
       }
 

@@ -8,9 +8,9 @@ use Rattle.grid.specs.Grid.{ceiling}
 use Rattle.grid.specs.Map.{Map}
 use Rattle.grid.proofs.SheetOrder.{InOrder}
 use Rattle.kernel.proofs.Populations.{population-zero, population-total}
+use Rattle.bounds.specs.Fair.{Fair}
 use Rattle.bounds.proofs.Bounds.{Bounded, inside-bounded}
 use Rattle.bounds.proofs.Wide.{bound-ceiling}
-use Rattle.demand.specs.Demand3.{Fair}
 
 -- radius 0 and the ceiling need no fairness
 pub fair-bounded : (m : Map) → InOrder (m .globe) → Fair (m .globe) → (km : ℕ) → km ≤ ceiling (m .globe .grid) → Bounded m (whole km)

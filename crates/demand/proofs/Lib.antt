@@ -1,11 +1,9 @@
-pub mod Traces
 pub mod Runs
 pub mod Answers
 pub mod Lists
 pub mod Searches
 pub mod Fairness
 pub mod Demand3
-pub mod FairTest
 pub mod RingFair
 pub mod Unfair
 pub mod RingDemand

@@ -27,6 +27,7 @@ use Rattle.probes.specs.declared.Smallest.{Smallest}
 use Rattle.probes.specs.Probes.{mostRadii, smallestRun}
 use Rattle.probes.specs.Smallest.{smallest}
 use Rattle.smallest.specs.Call.{ownQuestions, smallestQuestions, smallestCall}
+use Rattle.smallest.proofs.FewRadii.{few-radii}
 use Rattle.demand.specs.Demand3.{Accepted, BestCandidate, Call, called, fresh, ledgerAfter, AnsweredRight, CallRight, EachRight, traceOf, probesOf, callProbes, evaluatedAt, evaluatedBy, evaluatedOf, radiiEvaluated, ListPromise}
 use Rattle.demand.proofs.Runs.{BestLedger}
 use Rattle.demand.proofs.Answers.{SettledRight, smallest-right}
@@ -95,6 +96,7 @@ module _ (m : Map) (a : Accepted m) (l : Ledger) (c : Call) where
   module _ (s : ListLedger m l) (free : placesFree l mostRadii ≡ true) (e : called m l c .answer ≡ answered (smallest m (c .spacing) (c .share) l .answer))
       (r : SettledRight m l (c .share) (traceOf (smallestRun m (c .spacing) (c .share) l)) (smallest m (c .spacing) (c .share) l)) where
     answered-right : AnsweredRight m l c (smallest m (c .spacing) (c .share) l .answer)
+    unfolding called
     answered-right =
         record {
           radius = r .radius;
@@ -104,7 +106,7 @@ module _ (m : Map) (a : Accepted m) (l : Ledger) (c : Call) where
           short = r .short;
           witness = r .witness;
           gained = rw (ledger-answered _ e, r .evaluated) (r .run .gained);
-          bounded = r .bounded;
+          bounded = few-radii m (c .spacing) (c .share) l (c .lent) _ e;
         }
 
     answered-done : CallDone m l c
@@ -114,7 +116,7 @@ module _ (m : Map) (a : Accepted m) (l : Ledger) (c : Call) where
         record {
           right = record { judged = judged s; kept = ledger-refused; right = λ x q. same x (sym e ∙ q) };
           ledger = rw after-is
-              (record { best = r .run .ledger; room = omega (arith, r .run .ledger .counted, r .run .gained, r .evaluated, r .bounded, s .best .counted, places-free l mostRadii free) });
+              (record { best = r .run .ledger; room = omega (arith, r .run .ledger .counted, r .run .gained, r .evaluated, answered-right .bounded, s .best .counted, places-free l mostRadii free) });
           gained = rw (after-is, e, r .evaluated) (r .run .gained);
           kept = λ km. rw (after-is, e) (r .run .kept km);
         }

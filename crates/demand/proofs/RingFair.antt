@@ -4,10 +4,10 @@ use Prim.Native.Nat.{ℕ}
 use mathlib.Core.List.{List, [], _∷_}
 use native.Mathlib.Nat.{le-trans, le-of-lt}
 use lib.Dec.{T, lit≤}
+use Rattle.bounds.specs.Fair.{Fair}
+use Rattle.bounds.proofs.FairTest.{fairTest, fairTests, fair-by-test}
 use Rattle.search.specs.Ring.{ringGlobe}
 use Rattle.search.proofs.Ring.{ring-open}
-use Rattle.demand.specs.Demand3.{Fair}
-use Rattle.demand.proofs.FairTest.{fairTest, fairTests, fair-by-test}
 
 -- the radii that reach no further cell
 abbrev short : List ℕ

@@ -9,7 +9,7 @@ use lib.ListN.{length}
 use borrow.Author.Tests.{eqb-true, lt-ltb, le-leb}
 use Rattle.lists.specs.Counted.{one}
 use Rattle.lists.proofs.Bools.{is-true, cases, and-both, or-none}
-use Rattle.lists.proofs.Elements.{AllOf, none, also}
+use Rattle.lists.specs.Elements.{AllOf, none, also}
 use Rattle.grid.specs.Grid.{ceiling}
 use Rattle.grid.specs.Map.{Map}
 use Rattle.grid.proofs.Answers.{map-passed}

@@ -8,7 +8,7 @@ use Rattle.grid.specs.Grid.{ceiling}
 use Rattle.grid.specs.Map.{Map}
 use Rattle.grid.specs.Answer.{firstNo, answered, decide}
 use Rattle.grid.proofs.Answers.{yes-all, yes-to, after-map, decide-yes, decided-yes}
-use Rattle.kernel.specs.Call.{radiusInRange}
+use Rattle.grid.specs.Questions.{radiusInRange}
 use Rattle.bounds.specs.declared.Spacing.{Spacing}
 use Rattle.bounds.specs.Spacing.{spacingGiven}
 use Rattle.search.specs.declared.MostPopulous.{MostPopulous}

@@ -15,11 +15,12 @@ use Rattle.grid.specs.declared.Cell.{Cell}
 use Rattle.grid.specs.Grid.{cell, onGrid}
 use Rattle.kernel.specs.Circle.{population}
 use Rattle.blocks.specs.Block.{range, block}
+use Rattle.bounds.specs.Fair.{Fair}
+use Rattle.bounds.proofs.FairTest.{every-at}
 use Rattle.search.specs.Ring.{ringGlobe}
 use Rattle.search.proofs.Ring.{ring-open}
-use Rattle.demand.specs.Demand3.{Accepted, Fair, Best}
+use Rattle.demand.specs.Demand3.{Accepted, Best}
 use Rattle.demand.specs.Unfair.{thinRing, Missed}
-use Rattle.demand.proofs.FairTest.{every-at}
 
 thin-accepted : Accepted thinRing
 unfolding ring-open thinRing

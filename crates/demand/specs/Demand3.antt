@@ -10,16 +10,14 @@ use lib.Ieee.{Float, le}
 use Rattle.floats.specs.Binary.{whole}
 use Rattle.grid.specs.declared.Cell.{Cell}
 use Rattle.grid.specs.Grid.{ceiling, cells, onGrid}
-use Rattle.grid.specs.Map.{Globe, Map}
+use Rattle.grid.specs.Map.{Map}
 use Rattle.grid.specs.Answer.{question, firstNo, Answer, answered, refused, decide}
 use Rattle.grid.specs.Questions.{mapQuestions}
-use Rattle.kernel.specs.Circle.{inCircle, population}
-use Rattle.blocks.specs.declared.Block.{Block}
+use Rattle.kernel.specs.Circle.{population}
 use Rattle.candidates.specs.declared.Candidate.{Candidate}
 use Rattle.search.specs.declared.MostPopulous.{MostPopulous}
 use Rattle.bounds.specs.declared.Spacing.{Spacing}
-use Rattle.bounds.specs.Bound.{inWideCircle}
-use Rattle.blocks.specs.Block.{Rectangle, Holds}
+use Rattle.bounds.specs.Fair.{Fair}
 use Rattle.search.specs.Best.{BestOf}
 use Rattle.candidates.specs.Candidate.{centreOf}
 use Rattle.search.specs.Search.{search}
@@ -44,16 +42,6 @@ use Rattle.smallest.specs.Call.{SmallestOutcome, smallestCall}
 pub record Accepted (m : Map) : Type 0 where
   pub asked : firstNo (mapQuestions m) ≡ 0
   pub counted : (i : ℕ) → getD (m .counts) i 0 < 2 ^ 32
-
--- each cell's circle lies inside the wide circle of every rectangle holding that cell: sets of cells, whatever the counts
-abbrev pub FairAt : Globe → ℕ → Type 0
-FairAt s km =
-    (b : Block) → Rectangle (s .grid) b → (c : Cell) → Holds b c → (x : Cell) → T (onGrid (s .grid) x)
-    → T (inCircle s (whole km) c x) → T (inWideCircle s (whole km) b x)
-
--- at each whole radius from 1 to the kilometre below the ceiling
-abbrev pub Fair : Globe → Type 0
-Fair s = (km : ℕ) → 1 ≤ km → km < ceiling (s .grid) → FairAt s km
 
 -- the best circle at a radius: the one with most people; of several, the one whose centre is first by row, then column
 abbrev pub Best : Map → ℕ → Cell → Type 0

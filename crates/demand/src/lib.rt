@@ -1,2 +1,1 @@
 // Demand 3: its statement in specs/, its theorem in proofs/. It has no code of its own.
-fn none() {}

@@ -65,8 +65,8 @@ rowFound g i = cond (ltb i (g .height)) (row-found.On (record { 0 = i })) row-fo
 unfoldable pub colFound : Grid → ℕ → ColFound
 colFound g i = cond (ltb i (g .width)) (col-found.On (record { 0 = i })) col-found.Off
 
-unfoldable pub radiusFound : ℕ → RadiusFound
-radiusFound km = cond (leb km earthCeiling) (radius-found.Within (record { 0 = km })) radius-found.Beyond
+unfoldable pub radiusFound : Grid → ℕ → RadiusFound
+radiusFound g km = cond (leb km (ceiling g)) (radius-found.Within (record { 0 = km })) radius-found.Beyond
 
 -- ---- places and distances
 

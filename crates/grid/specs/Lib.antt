@@ -3,6 +3,4 @@ pub mod Grid
 pub mod Map
 pub mod Answer
 pub mod Questions
-pub mod Judge
 pub mod Requires
-pub mod State

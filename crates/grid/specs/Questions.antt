@@ -1,5 +1,5 @@
--- Questions 1 to 6, the ones that a map is asked.
-use Prim.Native.Nat.{ℕ, _+_, _-_}
+-- Questions 1 to 6, the ones that a map is asked, and question 8 of a radius.
+use Prim.Native.Nat.{ℕ, zero, suc, _+_, _-_}
 use mathlib.Core.Bool.{Bool, cond, _&&_, not}
 use mathlib.Core.List.{List, [], _∷_, _++_}
 use lib.Ieee.{Float, le, lt, eq}
@@ -8,8 +8,10 @@ use lib.ListN.{length}
 use Rattle.lists.specs.Counted.{allBelow}
 use Rattle.floats.specs.Binary.{whole, _⊕_, _⊗_, _⊖_, finite, absolute}
 use Rattle.grid.specs.declared.Grid.{Grid}
+use Rattle.grid.specs.declared.Asked.{Asked}
+use Rattle.grid.specs.declared.Asked.the-variants.{Radius, Refused}
 use Rattle.grid.specs.Numbers.{π, nano}
-use Rattle.grid.specs.Grid.{mostColumns, mostRows, cells, closing, angleCount}
+use Rattle.grid.specs.Grid.{mostColumns, mostRows, cells, closing, angleCount, ceiling}
 use Rattle.grid.specs.Map.{Globe, Map, angleAt, cosineAt}
 use Rattle.grid.specs.Answer.{Question, question}
 
@@ -107,7 +109,18 @@ sheetQuestions s = question 5 (sheetComplete s) ∷ question 6 (sheetInOrder s) 
 unfoldable pub mapQuestions : Map → List Question
 mapQuestions m = gridQuestions (m .globe .grid) ++ question 4 (countsComplete m) ∷ sheetQuestions (m .globe)
 
+-- ---- 8: a radius
+
+-- question 8, for a radius
+unfoldable pub radiusInRange : Grid → ℕ → Bool
+radiusInRange g km = leb km (ceiling g)
+
+-- what the first "no" of a call leaves: the radius where there is none, otherwise its number
+unfoldable pub asked : ℕ → ℕ → Asked
+asked zero km = Radius (record { 0 = km })
+asked (suc n) km = Refused (suc n)
+
 -- opens all of the above, for facts that are computed
 unfoldable pub open-questions : Unit {0}
-unfolding sizesInRange latitudeInRange latitudesInRange columnsClose gridQuestions countsComplete sheetComplete everyRow everyPair cosineInRange cosinesInRange angleInRange anglesInRange ownAngleZero angleRises anglesRise rowRises rowsRise sheetInOrder sheetQuestions mapQuestions
+unfolding sizesInRange latitudeInRange latitudesInRange columnsClose gridQuestions countsComplete sheetComplete everyRow everyPair cosineInRange cosinesInRange angleInRange anglesInRange ownAngleZero angleRises anglesRise rowRises rowsRise sheetInOrder sheetQuestions mapQuestions radiusInRange asked
 open-questions = tt

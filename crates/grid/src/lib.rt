@@ -1,13 +1,13 @@
 // Rows, columns, cells and whole-kilometre radii, each a type of its own, and the grid that holds them.
-mod judge;
 mod places;
 mod questions;
-mod sheet;
 
 pub use places::HALF_TURN;
 pub use places::angle_of;
 pub use places::arc_km;
 pub use places::before;
+pub use places::body_radius;
+pub use places::ceiling;
 pub use places::cells;
 pub use places::closing;
 pub use places::on_grid;
@@ -16,11 +16,8 @@ pub use questions::columns_close;
 pub use questions::counts_complete;
 pub use questions::grid_refusal;
 pub use questions::latitudes_in_range;
-pub use questions::map_refusal;
 pub use questions::sheet_complete;
-pub use questions::sheet_refusal;
 pub use questions::sizes_in_range;
-pub use sheet::sheet_in_order;
 ghost use mathlib.Core.Path.{_≡_};
 ghost use Rattle.grid.specs.Grid.{rowFound, colFound, radiusFound, centreLat};
 
@@ -67,30 +64,24 @@ pub enum RadiusFound {
     Beyond,
 }
 
-// A judge of a sheet's angles, fed in the sheet's order: where the next one stands, the angle before it, the latest
-// offset-0 angle, and whether all is well.
-pub struct SheetJudge {
-    grid: Grid,
-    centre: u32,
-    row: u32,
-    offset: u32,
-    before: f64,
-    head: f64,
-    well: bool,
+// What the questions of a call leave: the radius that it goes on with, or the number of the first question that is answered no.
+pub enum Asked {
+    Radius(RadiusKm),
+    Refused(u32),
 }
 
 impl RadiusKm {
-    // The IUGG mean radius.
+    // The IUGG mean radius. Other crates read it by `body_radius`, of a grid.
     pub const EARTH_RADIUS_KM: f64 = 6371.0088;
 
-    // The first whole kilometre at which every circle is the whole grid.
+    // The first whole kilometre at which every circle is the whole grid. Other crates read it by `ceiling`, of a grid.
     pub const CEILING: u32 = 20016;
 
-    // No radius beyond the ceiling is made: it would give the same circle.
-    pub fn new(km: u32) -> RadiusFound
-        ensures { λ r. ⌜ r ≡ radiusFound km ⌝ }
+    // No radius beyond the grid's ceiling is made: it would give the same circle.
+    pub fn new(grid: Grid, km: u32) -> RadiusFound
+        ensures { λ r. ⌜ r ≡ radiusFound grid km ⌝ }
     {
-        if km <= Self::CEILING {
+        if km <= crate::ceiling(grid) {
             RadiusFound::Within(RadiusKm(km))
         } else {
             RadiusFound::Beyond

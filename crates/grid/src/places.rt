@@ -1,38 +1,58 @@
 // Places and distances on the grid: cells, the sheet's places, the angle of a radius and the length of an arc.
 use crate::Cell;
+use crate::ColFound;
 use crate::Grid;
 use crate::RadiusKm;
 use crate::Row;
+use crate::RowFound;
 ghost use mathlib.Core.Path.{_≡_};
-ghost use Rattle.grid.specs.Grid.{angleOf, arcKm, onGrid, cells, before, closing};
+ghost use Rattle.grid.specs.Grid.{bodyRadius, ceiling, angleOf, arcKm, onGrid, cells, before, closing};
 ghost use Rattle.grid.specs.Map.{sheetIndex};
 ghost use Rattle.grid.specs.Requires.{InSheet};
 
 // Half a turn in radians.
 pub const HALF_TURN: f64 = 3.141592653589793;
 
+// The radius of the body in kilometres: the Earth's on every grid.
+pub fn body_radius(grid: Grid) -> f64
+    ensures { λ r. ⌜ r ≡ bodyRadius grid ⌝ }
+{
+    RadiusKm::EARTH_RADIUS_KM
+}
+
+// The first whole kilometre at which every circle is the whole grid.
+pub fn ceiling(grid: Grid) -> u32
+    ensures { λ r. ⌜ r ≡ ceiling grid ⌝ }
+{
+    RadiusKm::CEILING
+}
+
 // The angle of a radius: at most half a turn, since nothing lies further away.
 pub fn angle_of(grid: Grid, km: f64) -> f64
     ensures { λ r. ⌜ r ≡ angleOf grid km ⌝ }
 {
-    floats::lesser(km / RadiusKm::EARTH_RADIUS_KM, HALF_TURN)
+    floats::lesser(km / body_radius(grid), HALF_TURN)
 }
 
 // The length in kilometres of an arc of that angle.
 pub fn arc_km(grid: Grid, angle: f64) -> f64
     ensures { λ r. ⌜ r ≡ arcKm grid angle ⌝ }
 {
-    RadiusKm::EARTH_RADIUS_KM * angle
+    body_radius(grid) * angle
 }
 
 // Whether the grid has that row and that column.
 pub fn on_grid(grid: Grid, cell: Cell) -> bool
     ensures { λ r. ⌜ r ≡ onGrid grid cell ⌝ }
 {
-    if cell.row.0 < grid.height {
-        cell.col.0 < grid.width
-    } else {
-        false
+    let row = grid.row(cell.row.0);
+    let col = grid.col(cell.col.0);
+    match row {
+        RowFound::Off => false,
+        RowFound::On(_) => match col {
+            ColFound::Off => false,
+            ColFound::On(_) => true,
+        },
     }
 }
 

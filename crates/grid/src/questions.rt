@@ -1,4 +1,4 @@
-// Questions 1 to 5, each on any input, and the first refusal of a grid, of a sheet and of a map.
+// Questions 1 to 5, each on any input, and the first refusal of a grid.
 use crate::Grid;
 ghost use mathlib.Core.Path.{_≡_};
 ghost use Prim.Native.Nat.{_*_};
@@ -7,7 +7,7 @@ ghost use lib.Dec.{eqb};
 ghost use Rattle.grid.specs.Answer.{firstNo};
 ghost use Rattle.grid.specs.Map.{globeOf, lentMap};
 ghost use Rattle.grid.specs.Questions.{sizesInRange, latitudeInRange, latitudesInRange, columnsClose};
-ghost use Rattle.grid.specs.Questions.{countsComplete, sheetComplete, gridQuestions, sheetQuestions, mapQuestions};
+ghost use Rattle.grid.specs.Questions.{countsComplete, sheetComplete, gridQuestions};
 
 // What edges and turns may be off by, in degrees. A step is a rounded decimal, so that rows that end at a pole may end a little past it,
 // and columns that make a turn may miss 360 by a little; being wrong by a cell is far more than this.
@@ -111,31 +111,4 @@ pub fn grid_refusal(grid: Grid) -> u32
         return 3;
     }
     0
-}
-
-// The number of the first of the questions 5 and 6 that is answered no, or 0.
-pub fn sheet_refusal(grid: Grid, angles: &[f64], cosines: &[f64]) -> u32
-    ensures { λ r. ⌜ r ≡ firstNo (sheetQuestions (globeOf grid (now (angles .entry)) (now (cosines .entry)))) ⌝ }
-{
-    if !sheet_complete(grid, angles, cosines) {
-        return 5;
-    }
-    if !crate::sheet_in_order(grid, angles, cosines) {
-        return 6;
-    }
-    0
-}
-
-// The number of the first of the questions 1 to 6 that is answered no, or 0.
-pub fn map_refusal(grid: Grid, counts: &[u32], angles: &[f64], cosines: &[f64]) -> u32
-    ensures { λ r. ⌜ r ≡ firstNo (mapQuestions (lentMap grid (now (counts .entry)) (now (angles .entry)) (now (cosines .entry)))) ⌝ }
-{
-    let refusal = grid_refusal(grid);
-    if refusal != 0 {
-        return refusal;
-    }
-    if !counts_complete(grid, counts) {
-        return 4;
-    }
-    sheet_refusal(grid, angles, cosines)
 }

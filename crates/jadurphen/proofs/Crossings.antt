@@ -17,16 +17,16 @@ use Rattle.search.specs.Search.{search}
 use Rattle.search.specs.Call.{Buffers, buffers, SearchOutcome, searchQuestions, searchCall, searchAnswer}
 use Rattle.candidates.specs.declared.Candidate.{Candidate}
 use Rattle.ledger.specs.declared.Ledger.{Ledger}
-use Rattle.ledger.specs.declared.PutAnswer.{PutAnswer}
-use Rattle.ledger.specs.declared.PutAnswer.the-variants as put-answer
+use Rattle.put.specs.declared.PutAnswer.{PutAnswer}
+use Rattle.put.specs.declared.PutAnswer.the-variants as put-answer
 use Rattle.ledger.specs.Ledger.{entry}
-use Rattle.ledger.specs.Call.{PutOutcome, putQuestions, putCall, putAnswer}
-use Rattle.ledger.proofs.Calls.{put-room}
+use Rattle.put.specs.Call.{PutOutcome, putQuestions, putCall, putAnswer}
+use Rattle.put.proofs.Calls.{put-room}
 use Rattle.words.specs.Words.{ledgerLength, ledgerOf, ledgerWords}
 use Rattle.words.proofs.Places.{counted-fits, fits-length}
-use Rattle.kernel.specs.declared.CircleAnswer.{CircleAnswer}
-use Rattle.kernel.specs.declared.CircleAnswer.the-variants as circle-answer
-use Rattle.kernel.specs.Call.{CircleOutcome, circleCall, circleAnswer}
+use Rattle.circle.specs.declared.CircleAnswer.{CircleAnswer}
+use Rattle.circle.specs.declared.CircleAnswer.the-variants as circle-answer
+use Rattle.circle.specs.Call.{CircleOutcome, circleCall, circleAnswer}
 use Rattle.jadurphen.specs.Crossing.{numberOf, written}
 use Rattle.jadurphen.specs.Calls.{circleReturned, circleCrossed, circleCrossing, searchWords, searchReturned, searchCrossed, searchCrossing, putReturned, putCrossed, putCrossing}
 

@@ -6,12 +6,12 @@ use Rattle.grid.specs.declared.Cell.{Cell}
 use Rattle.grid.specs.declared.Grid.{Grid}
 use Rattle.grid.specs.Map.{Map}
 use Rattle.grid.specs.Answer.{after}
-use Rattle.kernel.specs.Call.{CircleOutcome, circleCall}
+use Rattle.circle.specs.Call.{CircleOutcome, circleCall}
 use Rattle.bounds.specs.declared.Spacing.{Spacing}
 use Rattle.search.specs.declared.MostPopulous.{MostPopulous}
 use Rattle.search.specs.Call.{Buffers, SearchOutcome, searchCall}
 use Rattle.ledger.specs.declared.Entry.{Entry}
-use Rattle.ledger.specs.Call.{PutOutcome, putCall}
+use Rattle.put.specs.Call.{PutOutcome, putCall}
 use Rattle.words.specs.Words.{ledgerOf, ledgerWords}
 use Rattle.jadurphen.specs.Crossing.{numberOf, written, buffersLeft}
 

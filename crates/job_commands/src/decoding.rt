@@ -11,7 +11,7 @@ ghost use Prim.Native.Nat.{_+_, _≤_};
 ghost use lib.ListN.{length, drop};
 ghost use Rattle.job_commands.specs.Command.{gridRead, setGridOf, setCountOf, setCosineOf, setAngleOf, mostOf, leastOf};
 ghost use Rattle.job_commands.specs.Command.{withOperands, endOf, decodeAs, decode};
-ghost use Rattle.job_commands.specs.State.{decodedOf};
+ghost use Rattle.job_commands.specs.State.{decodedIn};
 
 // G's operands.
 fn grid_at(bytes: &[u8], from: usize) -> Grid
@@ -33,7 +33,7 @@ fn grid_at(bytes: &[u8], from: usize) -> Grid
 // taken for zeros.
 fn read_grid(bytes: &[u8], from: usize) -> Decoded
     requires { ⌜ from ≤ length (now bytes) ⌝ }
-    ensures { λ r. ⌜ decodedOf (now (bytes .entry)) r ≡ withOperands 26 setGridOf (drop from (now (bytes .entry))) ⌝ }
+    ensures { λ r. ⌜ r ≡ decodedIn (now (bytes .entry)) (withOperands 26 setGridOf (drop from (now (bytes .entry)))) ⌝ }
 {
     if bytes.len() - from < 26 {
         return Decoded::Malformed;
@@ -47,7 +47,7 @@ fn read_grid(bytes: &[u8], from: usize) -> Decoded
 
 fn read_count(bytes: &[u8], from: usize) -> Decoded
     requires { ⌜ from ≤ length (now bytes) ⌝ }
-    ensures { λ r. ⌜ decodedOf (now (bytes .entry)) r ≡ withOperands 6 setCountOf (drop from (now (bytes .entry))) ⌝ }
+    ensures { λ r. ⌜ r ≡ decodedIn (now (bytes .entry)) (withOperands 6 setCountOf (drop from (now (bytes .entry)))) ⌝ }
 {
     if bytes.len() - from < 6 {
         return Decoded::Malformed;
@@ -69,7 +69,7 @@ fn read_count(bytes: &[u8], from: usize) -> Decoded
 
 fn read_cosine(bytes: &[u8], from: usize) -> Decoded
     requires { ⌜ from ≤ length (now bytes) ⌝ }
-    ensures { λ r. ⌜ decodedOf (now (bytes .entry)) r ≡ withOperands 9 setCosineOf (drop from (now (bytes .entry))) ⌝ }
+    ensures { λ r. ⌜ r ≡ decodedIn (now (bytes .entry)) (withOperands 9 setCosineOf (drop from (now (bytes .entry)))) ⌝ }
 {
     if bytes.len() - from < 9 {
         return Decoded::Malformed;
@@ -87,7 +87,7 @@ fn read_cosine(bytes: &[u8], from: usize) -> Decoded
 
 fn read_angle(bytes: &[u8], from: usize) -> Decoded
     requires { ⌜ from ≤ length (now bytes) ⌝ }
-    ensures { λ r. ⌜ decodedOf (now (bytes .entry)) r ≡ withOperands 11 setAngleOf (drop from (now (bytes .entry))) ⌝ }
+    ensures { λ r. ⌜ r ≡ decodedIn (now (bytes .entry)) (withOperands 11 setAngleOf (drop from (now (bytes .entry)))) ⌝ }
 {
     if bytes.len() - from < 11 {
         return Decoded::Malformed;
@@ -109,7 +109,7 @@ fn read_angle(bytes: &[u8], from: usize) -> Decoded
 
 fn read_most(bytes: &[u8], from: usize) -> Decoded
     requires { ⌜ from ≤ length (now bytes) ⌝ }
-    ensures { λ r. ⌜ decodedOf (now (bytes .entry)) r ≡ withOperands 4 mostOf (drop from (now (bytes .entry))) ⌝ }
+    ensures { λ r. ⌜ r ≡ decodedIn (now (bytes .entry)) (withOperands 4 mostOf (drop from (now (bytes .entry)))) ⌝ }
 {
     if bytes.len() - from < 4 {
         return Decoded::Malformed;
@@ -128,7 +128,7 @@ fn read_most(bytes: &[u8], from: usize) -> Decoded
 
 fn read_least(bytes: &[u8], from: usize) -> Decoded
     requires { ⌜ from ≤ length (now bytes) ⌝ }
-    ensures { λ r. ⌜ decodedOf (now (bytes .entry)) r ≡ withOperands 10 leastOf (drop from (now (bytes .entry))) ⌝ }
+    ensures { λ r. ⌜ r ≡ decodedIn (now (bytes .entry)) (withOperands 10 leastOf (drop from (now (bytes .entry)))) ⌝ }
 {
     if bytes.len() - from < 10 {
         return Decoded::Malformed;
@@ -147,7 +147,7 @@ fn read_least(bytes: &[u8], from: usize) -> Decoded
 // E ends the bytes as it ends the job.
 fn read_end(bytes: &[u8], from: usize) -> Decoded
     requires { ⌜ from ≤ length (now bytes) ⌝ }
-    ensures { λ r. ⌜ decodedOf (now (bytes .entry)) r ≡ endOf (drop from (now (bytes .entry))) ⌝ }
+    ensures { λ r. ⌜ r ≡ decodedIn (now (bytes .entry)) (endOf (drop from (now (bytes .entry)))) ⌝ }
 {
     if from < bytes.len() {
         return Decoded::Malformed;
@@ -162,7 +162,7 @@ fn read_end(bytes: &[u8], from: usize) -> Decoded
 // By the letter; an unknown one is no command.
 fn decode_as(letter: u8, bytes: &[u8], from: usize) -> Decoded
     requires { ⌜ from ≤ length (now bytes) ⌝ }
-    ensures { λ r. ⌜ decodedOf (now (bytes .entry)) r ≡ decodeAs letter (drop from (now (bytes .entry))) ⌝ }
+    ensures { λ r. ⌜ r ≡ decodedIn (now (bytes .entry)) (decodeAs letter (drop from (now (bytes .entry)))) ⌝ }
 {
     if letter == b'G' {
         return read_grid(bytes, from);
@@ -190,7 +190,7 @@ fn decode_as(letter: u8, bytes: &[u8], from: usize) -> Decoded
 
 // The command at a place, and the place after it.
 pub fn decode(bytes: &[u8], at: usize) -> Decoded
-    ensures { λ r. ⌜ decodedOf (now (bytes .entry)) r ≡ decode (drop at (now (bytes .entry))) ⌝ }
+    ensures { λ r. ⌜ r ≡ decodedIn (now (bytes .entry)) (decode (drop at (now (bytes .entry)))) ⌝ }
 {
     if at < bytes.len() {
         decode_as(bytes[at], bytes, at + 1)

@@ -1,11 +1,10 @@
 -- Lines as the code has them, whole and under way.
-use Prim.Native.Nat.{ℕ, _+_, _*_, _≤_}
-use mathlib.Core.Path.{_≡_}
-use mathlib.Core.List.{List, _++_}
-use lib.ListN.{length, take, drop}
+use Prim.Native.Nat.{ℕ, _+_, _-_}
+use mathlib.Core.List.{List, [], _∷_, _++_}
+use lib.ListN.{length, take, set, replicate}
 use Rattle.job_lines.specs.declared.Digits.{Digits}
 use Rattle.job_lines.specs.declared.Line.{Line}
-use Rattle.job_lines.specs.Line.{longestField, fields}
+use Rattle.job_lines.specs.Line.{mostDigits}
 
 -- the bytes of a line's array
 abbrev pub lineRoom : ℕ
@@ -15,21 +14,19 @@ lineRoom = 256
 unfoldable pub textOf : Line → List ℕ
 textOf l = take (l .len) (l .bytes)
 
--- the digits of a number
-unfoldable pub digitsOf : Digits → List ℕ
-digitsOf d = drop (d .from) (d .bytes)
+-- the line of a text, whole: its bytes, then zeros
+unfoldable pub lineOf : List ℕ → Line
+lineOf text = record { len = length text; bytes = text ++ replicate (lineRoom - length text) 0 }
 
--- a line with more bytes behind it
-pub record Longer (line r : Line) (more : List ℕ) : Type 0 where
-  pub text : textOf r ≡ textOf line ++ more
-  pub len : r .len ≡ line .len + length more
+-- a line with one byte behind it; what stands after it is as it was
+unfoldable pub withByte : Line → ℕ → Line
+withByte l b = record { len = l .len + 1; bytes = set (l .bytes) (l .len) b }
 
--- a line with more bytes behind it, at most so many
-pub record LongerBy (most : ℕ) (line r : Line) (more : List ℕ) : Type 0 where
-  pub text : textOf r ≡ textOf line ++ more
-  pub len : r .len ≤ line .len + most
+-- and with more, byte behind byte
+unfoldable pub longer : Line → List ℕ → Line
+longer l [] = l
+longer l (b ∷ bs) = longer (withByte l b) bs
 
--- a line as far as its word and its first numbers
-pub record Begun (word numbers : List ℕ) (r : Line) : Type 0 where
-  pub text : textOf r ≡ word ++ fields numbers
-  pub len : r .len ≤ length word + longestField * length numbers
+-- digits at the end of their array, "0" before them
+unfoldable pub digitsIn : List ℕ → Digits
+digitsIn ds = record { from = mostDigits - length ds; bytes = replicate (mostDigits - length ds) 48 ++ ds }

@@ -1,13 +1,12 @@
 // A 64-bit number in decimal.
 use crate::Digits;
 ghost use mathlib.Core.Path.{_≡_};
-ghost use Prim.Native.Nat.{_≤_};
-ghost use Rattle.job_lines.specs.Line.{mostDigits, inDecimal};
-ghost use Rattle.job_lines.specs.State.{digitsOf};
+ghost use Rattle.job_lines.specs.Line.{inDecimal};
+ghost use Rattle.job_lines.specs.State.{digitsIn};
 
 // The digits from the last to the first, so that their number need not be known before.
 pub(crate) fn digits_of(n: u64) -> Digits
-    ensures { λ r. ⌜ (digitsOf r ≡ inDecimal n) × (r .from ≤ mostDigits) ⌝ }
+    ensures { λ r. ⌜ r ≡ digitsIn (inDecimal n) ⌝ }
 {
     let mut bytes = [48u8; Digits::MOST];
     let mut from: usize = Digits::LAST;

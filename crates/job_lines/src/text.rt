@@ -9,11 +9,11 @@ ghost use mathlib.Core.List.{[], _++_};
 ghost use Prim.Native.Nat.{_+_, _*_, _≤_, _<_};
 ghost use lib.ListN.{length};
 ghost use Rattle.job_lines.specs.Line.{longestField, field, fields, newline, shortFields, refusedLine, mostLine, leastLine};
-ghost use Rattle.job_lines.specs.State.{lineRoom, textOf, Longer, LongerBy, Begun};
+ghost use Rattle.job_lines.specs.State.{lineRoom, lineOf, longer};
 
 // A line of no bytes: none.
 pub fn blank() -> Line
-    ensures { λ r. ⌜ (textOf r ≡ []) × (r .len ≡ 0) ⌝ }
+    ensures { λ r. ⌜ r ≡ lineOf [] ⌝ }
 {
     Line {
         len: 0,
@@ -24,7 +24,7 @@ pub fn blank() -> Line
 // The line with more bytes behind it.
 fn append(line: Line, more: &[u8]) -> Line
     requires { ⌜ line .len + length (now more) ≤ lineRoom ⌝ }
-    ensures { λ r. ⌜ Longer line r (now (more .entry)) ⌝ }
+    ensures { λ r. ⌜ r ≡ longer line (now (more .entry)) ⌝ }
 {
     let mut next = line;
     let mut i: usize = 0;
@@ -40,7 +40,7 @@ fn append(line: Line, more: &[u8]) -> Line
 // A space and the number.
 fn add_field(line: Line, n: u64) -> Line
     requires { ⌜ line .len + longestField ≤ lineRoom ⌝ }
-    ensures { λ r. ⌜ LongerBy longestField line r (field n) ⌝ }
+    ensures { λ r. ⌜ r ≡ longer line (field n) ⌝ }
 {
     let space = [32u8];
     let spaced = append(line, &space);
@@ -53,7 +53,7 @@ fn add_field(line: Line, n: u64) -> Line
 // A field for each number.
 fn add_fields(line: Line, numbers: &[u64]) -> Line
     requires { ⌜ line .len + longestField * length (now numbers) ≤ lineRoom ⌝ }
-    ensures { λ r. ⌜ LongerBy (longestField * length (now (numbers .entry))) line r (fields (now (numbers .entry))) ⌝ }
+    ensures { λ r. ⌜ r ≡ longer line (fields (now (numbers .entry))) ⌝ }
 {
     let mut next = line;
     let mut i: usize = 0;
@@ -67,7 +67,7 @@ fn add_fields(line: Line, numbers: &[u64]) -> Line
 // A line as far as its word and its first numbers.
 fn begin_line(word: &[u8], numbers: &[u64]) -> Line
     requires { ⌜ length (now word) + longestField * length (now numbers) ≤ lineRoom ⌝ }
-    ensures { λ r. ⌜ Begun (now (word .entry)) (now (numbers .entry)) r ⌝ }
+    ensures { λ r. ⌜ r ≡ lineOf (now (word .entry) ++ fields (now (numbers .entry))) ⌝ }
 {
     let begun = append(blank(), word);
     add_fields(begun, numbers)
@@ -76,7 +76,7 @@ fn begin_line(word: &[u8], numbers: &[u64]) -> Line
 // The line with its end.
 fn end_line(line: Line) -> Line
     requires { ⌜ line .len < lineRoom ⌝ }
-    ensures { λ r. ⌜ textOf r ≡ textOf line ++ newline ⌝ }
+    ensures { λ r. ⌜ r ≡ longer line newline ⌝ }
 {
     let end = [10u8];
     append(line, &end)
@@ -84,7 +84,7 @@ fn end_line(line: Line) -> Line
 
 // The line of a refusal: "refused" and its number.
 pub fn refused_line(n: u32) -> Line
-    ensures { λ r. ⌜ textOf r ≡ refusedLine n ⌝ }
+    ensures { λ r. ⌜ r ≡ lineOf (refusedLine n) ⌝ }
 {
     let word = [114u8, 101, 102, 117, 115, 101, 100];
     let numbers = [n as u64];
@@ -93,7 +93,7 @@ pub fn refused_line(n: u32) -> Line
 
 // The line of an M: "most", the radius, the centre with its population, and the counts of the work.
 pub fn most_line(found: MostPopulous) -> Line
-    ensures { λ r. ⌜ textOf r ≡ mostLine found ⌝ }
+    ensures { λ r. ⌜ r ≡ lineOf (mostLine found) ⌝ }
 {
     let word = [109u8, 111, 115, 116];
     let centre = found.centre;
@@ -118,7 +118,7 @@ pub fn most_line(found: MostPopulous) -> Line
 // The witness's kilometre and population, or a dash for each: a number would say that there is a witness.
 fn add_short(line: Line, short: ShortBelow) -> Line
     requires { ⌜ line .len + 2 * longestField ≤ lineRoom ⌝ }
-    ensures { λ r. ⌜ LongerBy (2 * longestField) line r (shortFields short) ⌝ }
+    ensures { λ r. ⌜ r ≡ longer line (shortFields short) ⌝ }
 {
     match short {
         ShortBelow::Witness { km, population } => {
@@ -134,7 +134,7 @@ fn add_short(line: Line, short: ShortBelow) -> Line
 
 // The line of an R: "least", the radius, the centre with its population, the witness, and the radii evaluated and reused.
 pub fn least_line(found: Smallest) -> Line
-    ensures { λ r. ⌜ textOf r ≡ leastLine found ⌝ }
+    ensures { λ r. ⌜ r ≡ lineOf (leastLine found) ⌝ }
 {
     let word = [108u8, 101, 97, 115, 116];
     let centre = found.centre;

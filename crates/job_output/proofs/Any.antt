@@ -7,18 +7,14 @@ use native.Mathlib.Omega.{arith}
 use borrow.Author.Tests.{ltb-false}
 use lib.Dec.{ltb}
 use lib.ListN.{length, take, length-append}
-use Rattle.search.specs.declared.MostPopulous.{MostPopulous}
-use Rattle.probes.specs.declared.ShortBelow.{ShortBelow}
-use Rattle.probes.specs.declared.ShortBelow.the-variants as short-case
-use Rattle.probes.specs.declared.Smallest.{Smallest}
 use Rattle.ledger.specs.declared.Ledger.{Ledger}
 use Rattle.ledger.specs.State.{freshLedger}
-use Rattle.job_lines.specs.Line.{field, fields, mostWord, leastWord, refusedWord, newline, mostFields, shortFields, refusedLine, mostLine, leastLine, longestField, longestLine}
+use Rattle.job_lines.specs.Line.{refusedLine, mostLine, leastLine, longestLine}
 use Rattle.job_world.specs.World.{State, empty}
 use Rattle.job_step.specs.Job.{Step, step, linesFrom, job, mostBytes, program}
-use Rattle.job_lines.proofs.Decimals.{length-field}
+use Rattle.job_lines.proofs.Lengths.{length-refused, length-most, length-least}
 use Rattle.job_output.specs.Output.{printedInto, Output, outputOf, output}
-use Rattle.job_output.specs.Lines.{Lines, none, refusal, most, least, perByte, mostOutput, AnyJob}
+use Rattle.job_output.specs.Lines.{Lines, nothing, refusal, most, least, perByte, mostOutput, AnyJob}
 use Rattle.job_output.proofs.Running.{lines-next, lines-ended}
 use Rattle.job_output.proofs.Shapes.{Shape, on-silent, on-most, on-least, at-end, at-refusal, step-shape}
 
@@ -26,53 +22,17 @@ use Rattle.job_output.proofs.Shapes.{Shape, on-silent, on-most, on-leas
 
 lines-any : (fuel : ℕ) (s : State) (bs : List ℕ) → Lines (linesFrom fuel s bs)
 unfolding linesFrom
-lines-any zero s bs = none
+lines-any zero s bs = nothing
 lines-any (suc fuel) s bs = go (lines-any fuel) refl (step-shape s bs)
   where
     go : ((t : State) (rest : List ℕ) → Lines (linesFrom fuel t rest)) → {d : Step} → step s bs ≡ d → Shape (length bs) d → Lines (linesFrom (suc fuel) s bs)
     go more e (on-silent t rest h) = rw (lines-next fuel s t bs [] rest e) (more t rest)
     go more e (on-most t f rest h) = rw (lines-next fuel s t bs (mostLine f) rest e) (most f _ (more t rest))
     go more e (on-least t a rest h) = rw (lines-next fuel s t bs (leastLine a) rest e) (least a _ (more t rest))
-    go more e (at-end t) = rw (lines-ended fuel s t bs [] e) none
+    go more e (at-end t) = rw (lines-ended fuel s t bs [] e) nothing
     go more e (at-refusal t n) = rw (lines-ended fuel s t bs (refusedLine n) e) (refusal n)
 
 -- ---- how many bytes
-
-length-fields : (ns : List ℕ) → length (fields ns) ≤ longestField * length ns
-unfolding fields
-length-fields [] = omega arith
-length-fields (n ∷ ns) = omega (arith, length-fields ns, length-field n, length-append (field n) (fields ns))
-
-length-three : (xs ys zs : List ℕ) → length (xs ++ ys ++ zs) ≡ length xs + length ys + length zs
-length-three xs ys zs = omega (arith, length-append (xs ++ ys) zs, length-append xs ys)
-
-length-refused : (n : ℕ) → length (refusedLine n) ≤ longestLine
-unfolding refusedLine
-length-refused n = omega (arith, length-three refusedWord (fields (n ∷ [])) newline, length-fields (n ∷ []))
-
-length-most : (f : MostPopulous) → length (mostLine f) ≤ longestLine
-unfolding mostLine mostFields
-length-most f = omega (arith, length-three mostWord (fields (mostFields f)) newline, length-fields (mostFields f))
-
-length-short : (b : ShortBelow) → length (shortFields b) ≤ 2 * longestField
-unfolding shortFields
-length-short short-case.Absent = omega arith
-length-short (short-case.Witness km population) = length-fields (km .0 ∷ population ∷ [])
-
-length-least : (a : Smallest) → length (leastLine a) ≤ longestLine
-unfolding leastLine
-length-least a =
-    let head : List ℕ = fields (a .«radius_km» .0 ∷ a .centre .row .0 ∷ a .centre .col .0 ∷ a .centre .population ∷ []) in
-    let short : List ℕ = shortFields (a .«short_below») in
-    let tail : List ℕ = fields (a .stats .«radii_evaluated» ∷ a .stats .«radii_reused» ∷ []) in
-    omega (
-      arith,
-      length-three leastWord head short,
-      length-three (leastWord ++ head ++ short) tail newline,
-      length-fields (a .«radius_km» .0 ∷ a .centre .row .0 ∷ a .centre .col .0 ∷ a .centre .population ∷ []),
-      length-short (a .«short_below»),
-      length-fields (a .stats .«radii_evaluated» ∷ a .stats .«radii_reused» ∷ []),
-    )
 
 length-lines : (fuel : ℕ) (s : State) (bs : List ℕ) → length (linesFrom fuel s bs) ≤ perByte * length bs + longestLine
 unfolding linesFrom

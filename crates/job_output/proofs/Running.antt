@@ -9,12 +9,16 @@ use lib.ListN.{length, drop}
 use Rattle.ledger.specs.State.{freshLedger}
 use Rattle.job_lines.specs.declared.Line.{Line}
 use Rattle.job_step.specs.declared.StepResult.{StepResult}
-use Rattle.job_lines.specs.State.{lineRoom, textOf}
+use Rattle.job_lines.specs.State.{lineRoom, textOf, lineOf}
+use Rattle.job_lines.proofs.Texts.{text-line}
 use Rattle.job_lines.specs.Line.{refusedLine}
-use Rattle.job_world.specs.World.{State, empty}
-use Rattle.job_world.specs.State.{stateOf}
+use Rattle.job_world.specs.declared.JobState.{JobState}
+use Rattle.job_world.specs.World.{State}
+use Rattle.job_world.specs.State.{stateOf, startState}
+use Rattle.job_world.proofs.Maps.{states-seen}
 use Rattle.job_step.specs.Job.{next, ended, stepAfter, step, linesFrom, job, mostBytes, program}
-use Rattle.job_step.specs.State.{stepOf}
+use Rattle.job_step.specs.State.{stepOf, steppedIn}
+use Rattle.job_step.proofs.Seen.{steps-seen}
 use Rattle.job_output.specs.Output.{printedInto, Output, outputOf, output}
 use Rattle.job_output.specs.State.{added}
 use Rattle.job_output.proofs.Written.{added-written}
@@ -49,16 +53,19 @@ pub record Under (bytes out₀ out : List ℕ) (s : State) (at count i : ℕ) : 
   pub same : text ++ linesFrom (length bytes + 1 - i) s (drop at bytes) ≡ job freshLedger bytes
 
 module _ (bytes out₀ : List ℕ) where
-  pub under-none : (s : State) → s ≡ empty freshLedger → Under bytes out₀ out₀ s 0 0 0
+  pub under-none : (s : JobState) → s ≡ startState → Under bytes out₀ out₀ (stateOf s) 0 0 0
   unfolding job printedInto
   under-none s e =
       let all : length bytes + 1 - 0 ≡ length bytes + 1 = omega arith in
-      record { text = []; turn = omega arith; few = omega arith; counted = refl; there = refl; same = rw (all, e) }
+      record { text = []; turn = omega arith; few = omega arith; counted = refl; there = refl; same = rw (all, e, states-seen .start) }
 
-  module _ (out : List ℕ) (s : State) (at count i : ℕ) (u : Under bytes out₀ out s at count i) (i≤ : i ≤ length bytes) (r : StepResult) (is : stepOf bytes r ≡ step s (drop at bytes))
+  module _ (out : List ℕ) (s : JobState) (at count i : ℕ) (u : Under bytes out₀ out (stateOf s) at count i) (i≤ : i ≤ length bytes) (r : StepResult) (is : r ≡ steppedIn bytes at s)
       (n : ℕ) (out′ : List ℕ) (add : outputOf n out′ ≡ added count (textOf (r .line)) out) where
     behind : outputOf n out′ ≡ output (u .text ++ textOf (r .line)) out₀
     behind = add ∙ rw (u .counted, u .there) (added-written (u .text) (textOf (r .line)) out₀)
+
+    seen : stepOf bytes r ≡ step (stateOf s) (drop at bytes)
+    seen = ap (stepOf bytes) is ∙ steps-seen .stepped bytes at s
 
     fuel : length bytes + 1 - i ≡ suc (length bytes + 1 - (i + 1))
     fuel = omega arith
@@ -75,14 +82,14 @@ module _ (bytes out₀ : List ℕ) where
           counted = k;
           there = ap (λ (o : Output). o .buffer) b;
           same = append-assoc (u .text) (textOf (r .line)) _
-              ∙ ap (λ (t : List ℕ). u .text ++ t) (sym (lines-next _ s (stateOf (r .state)) (drop at bytes) (textOf (r .line)) (drop (r .next) bytes) (sym is ∙ step-next bytes r e)))
+              ∙ ap (λ (t : List ℕ). u .text ++ t) (sym (lines-next _ (stateOf s) (stateOf (r .state)) (drop at bytes) (textOf (r .line)) (drop (r .next) bytes) (sym seen ∙ step-next bytes r e)))
               ∙ (rw fuel at (u .same));
         }
 
     pub under-ended : r .ended ≡ true → outputOf n out′ ≡ output (job freshLedger bytes) out₀
     under-ended e =
         let last : u .text ++ textOf (r .line) ≡ job freshLedger bytes
-        = ap (λ (t : List ℕ). u .text ++ t) (sym (lines-ended _ s (stateOf (r .state)) (drop at bytes) (textOf (r .line)) (sym is ∙ step-ended bytes r e))) ∙ (rw fuel at (u .same)) in
+        = ap (λ (t : List ℕ). u .text ++ t) (sym (lines-ended _ (stateOf s) (stateOf (r .state)) (drop at bytes) (textOf (r .line)) (sym seen ∙ step-ended bytes r e))) ∙ (rw fuel at (u .same)) in
         behind ∙ ap (λ (t : List ℕ). output t out₀) last
 
   -- no fuel is left
@@ -96,9 +103,9 @@ module _ (bytes out₀ : List ℕ) where
 
 -- ---- the program
 
-pub too-long : (bs out : List ℕ) (line : Line) → mostBytes < length bs → textOf line ≡ refusedLine 13 → added 0 (textOf line) out ≡ output (program freshLedger bs) out
+pub too-long : (bs out : List ℕ) (line : Line) → mostBytes < length bs → line ≡ lineOf (refusedLine 13) → added 0 (textOf line) out ≡ output (program freshLedger bs) out
 unfolding program printedInto
-too-long bs out line h e = added-written [] (textOf line) out ∙ rw (lt-ltb mostBytes (length bs) h, e)
+too-long bs out line h e = added-written [] (textOf line) out ∙ rw (lt-ltb mostBytes (length bs) h, e, text-line (refusedLine 13))
 
 pub job-run : (bs out : List ℕ) → length bs ≤ mostBytes → output (job freshLedger bs) out ≡ output (program freshLedger bs) out
 unfolding program

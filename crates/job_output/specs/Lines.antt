@@ -13,7 +13,7 @@ use Rattle.job_output.specs.Output.{printedInto}
 
 -- whole lines: answers, and at most one refusal, the last
 pub data Lines : List ℕ → Type 0 where
-  none : Lines []
+  nothing : Lines []
   refusal : (n : ℕ) → Lines (refusedLine n)
   most : (f : MostPopulous) (more : List ℕ) → Lines more → Lines (mostLine f ++ more)
   least : (a : Smallest) (more : List ℕ) → Lines more → Lines (leastLine a ++ more)

@@ -1,4 +1,5 @@
 pub mod Commands
 pub mod Lent
 pub mod Stepping
+pub mod Seen
 pub mod Ring

@@ -10,9 +10,9 @@ ghost use mathlib.Core.Path.{_≡_};
 ghost use Rattle.search.specs.Call.{searchAnswer, searchCall};
 ghost use Rattle.smallest.specs.Call.{smallestCall};
 ghost use Rattle.job_commands.specs.declared.Command.the-variants.{Most, Least};
-ghost use Rattle.job_world.specs.State.{jobMap, stateOf};
-ghost use Rattle.job_step.specs.Apply.{jobSpacing, jobBuffers, applied};
-ghost use Rattle.job_step.specs.State.{IsLeast, doneOf};
+ghost use Rattle.job_world.specs.State.{jobMap};
+ghost use Rattle.job_step.specs.Apply.{jobSpacing, jobBuffers};
+ghost use Rattle.job_step.specs.State.{IsLeast, appliedIn};
 
 // A spacing of 0 is automatic.
 fn spacing_of(spacing: u32) -> Spacing
@@ -54,7 +54,7 @@ fn most_of(state: JobState, spacing: u32, km: u32) -> SearchAnswer
 
 // M: the most populous circle's line.
 pub fn run_most(state: JobState, spacing: u32, km: u32) -> Applied
-    ensures { λ r. ⌜ doneOf r ≡ applied (stateOf state) (Most spacing km) ⌝ }
+    ensures { λ r. ⌜ r ≡ appliedIn state (Most spacing km) ⌝ }
 {
     let begun = state.begun;
     if !begun {
@@ -98,7 +98,7 @@ fn least_of(state: JobState, spacing: u32, share: f64) -> SmallestResult
 
 // R: the smallest radius's line, and the ledger as the call leaves it, so that a later R need not search its radii again.
 pub fn run_least(state: JobState, spacing: u32, share: f64) -> Applied
-    ensures { λ r. ⌜ doneOf r ≡ applied (stateOf state) (Least spacing share) ⌝ }
+    ensures { λ r. ⌜ r ≡ appliedIn state (Least spacing share) ⌝ }
 {
     let begun = state.begun;
     if !begun {

@@ -4,21 +4,19 @@ use crate::Applied;
 use grid::Cell;
 use grid::Grid;
 use grid::Row;
+use grid::RowFound;
 use job_lines::Line;
+use job_world::AngleFound;
+use job_world::CellFound;
 use job_world::JobState;
 ghost use mathlib.Core.Path.{_≡_};
-ghost use mathlib.Core.Bool.{false};
-ghost use Rattle.grid.specs.Answer.{refused};
 ghost use Rattle.job_commands.specs.declared.Command.the-variants.{SetGrid, SetCount, SetCosine, SetAngle, End};
-ghost use Rattle.job_lines.specs.State.{textOf};
-ghost use Rattle.job_world.specs.State.{stateOf};
-ghost use Rattle.job_step.specs.Apply.{settle, applied};
-ghost use Rattle.job_step.specs.State.{doneOf};
+ghost use Rattle.job_step.specs.State.{refusedIn, goneOn, appliedIn};
 
 // A refusal: its line is the last. The state stays as it was before the command, so that a caller who steps through a job
 // sees a refused command change nothing.
 pub(crate) fn refuse(state: JobState, number: u32) -> Applied
-    ensures { λ r. ⌜ doneOf r ≡ settle (stateOf state) (refused number) ⌝ }
+    ensures { λ r. ⌜ r ≡ refusedIn state number ⌝ }
 {
     let line = job_lines::refused_line(number);
     Applied {
@@ -30,7 +28,7 @@ pub(crate) fn refuse(state: JobState, number: u32) -> Applied
 
 // The job goes on, with a line that may be none.
 pub(crate) fn go_on(state: JobState, line: Line) -> Applied
-    ensures { λ r. ⌜ doneOf r ≡ record { state = stateOf state; line = textOf line; last = false } ⌝ }
+    ensures { λ r. ⌜ r ≡ goneOn state line ⌝ }
 {
     Applied {
         state,
@@ -41,7 +39,7 @@ pub(crate) fn go_on(state: JobState, line: Line) -> Applied
 
 // G: a second one and a grid too large are 14; then questions 1 to 3.
 pub fn set_grid(state: JobState, grid: Grid) -> Applied
-    ensures { λ r. ⌜ doneOf r ≡ applied (stateOf state) (SetGrid grid) ⌝ }
+    ensures { λ r. ⌜ r ≡ appliedIn state (SetGrid grid) ⌝ }
 {
     let begun = state.begun;
     if begun {
@@ -61,55 +59,65 @@ pub fn set_grid(state: JobState, grid: Grid) -> Applied
 
 // C: a cell's count.
 pub fn set_count(state: JobState, cell: Cell, count: u32) -> Applied
-    ensures { λ r. ⌜ doneOf r ≡ applied (stateOf state) (SetCount cell count) ⌝ }
+    ensures { λ r. ⌜ r ≡ appliedIn state (SetCount cell count) ⌝ }
 {
     let begun = state.begun;
     if !begun {
         return refuse(state, 14);
     }
     let grid = state.grid;
-    if !grid::on_grid(grid, cell) {
-        return refuse(state, 15);
+    match job_world::cell_on(grid, cell) {
+        CellFound::Off => refuse(state, 15),
+        CellFound::On(found) => {
+            let next = job_world::with_count(state, found, count);
+            go_on(next, job_lines::blank())
+        }
     }
-    let next = job_world::with_count(state, cell, count);
-    go_on(next, job_lines::blank())
 }
 
 // K: a row's cosine.
 pub fn set_cosine(state: JobState, row: Row, cosine: f64) -> Applied
-    ensures { λ r. ⌜ doneOf r ≡ applied (stateOf state) (SetCosine row cosine) ⌝ }
+    ensures { λ r. ⌜ r ≡ appliedIn state (SetCosine row cosine) ⌝ }
 {
     let begun = state.begun;
     if !begun {
         return refuse(state, 14);
     }
     let grid = state.grid;
-    if !job_world::row_on(grid, row) {
-        return refuse(state, 15);
+    match grid.row(row.0) {
+        RowFound::Off => refuse(state, 15),
+        RowFound::On(found) => {
+            let next = job_world::with_cosine(state, found, cosine);
+            go_on(next, job_lines::blank())
+        }
     }
-    let next = job_world::with_cosine(state, row, cosine);
-    go_on(next, job_lines::blank())
 }
 
 // A: an angle of the sheet.
 pub fn set_angle(state: JobState, centre: Row, row: Row, offset: u32, angle: f64) -> Applied
-    ensures { λ r. ⌜ doneOf r ≡ applied (stateOf state) (SetAngle centre row offset angle) ⌝ }
+    ensures { λ r. ⌜ r ≡ appliedIn state (SetAngle centre row offset angle) ⌝ }
 {
     let begun = state.begun;
     if !begun {
         return refuse(state, 14);
     }
     let grid = state.grid;
-    if !job_world::angle_on(grid, centre, row, offset) {
-        return refuse(state, 15);
+    match job_world::angle_on(grid, centre, row, offset) {
+        AngleFound::Off => refuse(state, 15),
+        AngleFound::On {
+            centre: from,
+            row: to,
+            offset: at,
+        } => {
+            let next = job_world::with_angle(state, from, to, at, angle);
+            go_on(next, job_lines::blank())
+        }
     }
-    let next = job_world::with_angle(state, centre, row, offset, angle);
-    go_on(next, job_lines::blank())
 }
 
 // E: no line, and the last command.
 pub fn end(state: JobState) -> Applied
-    ensures { λ r. ⌜ doneOf r ≡ applied (stateOf state) End ⌝ }
+    ensures { λ r. ⌜ r ≡ appliedIn state End ⌝ }
 {
     let begun = state.begun;
     if !begun {

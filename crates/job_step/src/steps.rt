@@ -7,15 +7,11 @@ use job_commands::Command;
 use job_commands::Decoded;
 use job_world::JobState;
 ghost use mathlib.Core.Path.{_≡_};
-ghost use lib.ListN.{drop};
-ghost use Rattle.job_world.specs.State.{stateOf};
-ghost use Rattle.job_step.specs.Apply.{applied};
-ghost use Rattle.job_step.specs.State.{doneOf, stepOf};
-ghost use Rattle.job_step.specs.Job.{step};
+ghost use Rattle.job_step.specs.State.{appliedIn, steppedIn};
 
 // The command, by the function of its letter.
 pub fn apply(state: JobState, command: Command) -> Applied
-    ensures { λ r. ⌜ doneOf r ≡ applied (stateOf state) command ⌝ }
+    ensures { λ r. ⌜ r ≡ appliedIn state command ⌝ }
 {
     match command {
         Command::SetGrid(grid) => change::set_grid(state, grid),
@@ -35,7 +31,7 @@ pub fn apply(state: JobState, command: Command) -> Applied
 
 // The step from a state at a place of the job's bytes.
 pub fn step(bytes: &[u8], at: usize, state: JobState) -> StepResult
-    ensures { λ r. ⌜ stepOf (now (bytes .entry)) r ≡ step (stateOf state) (drop at (now (bytes .entry))) ⌝ }
+    ensures { λ r. ⌜ r ≡ steppedIn (now (bytes .entry)) at state ⌝ }
 {
     match job_commands::decode(bytes, at) {
         Decoded::Read { command, next } => {

@@ -1,3 +1,4 @@
 pub mod Whole
 pub mod Fronts
 pub mod Maps
+pub mod Found

@@ -6,22 +6,18 @@ use mathlib.Core.List.{List, [], _∷_}
 use native.Mathlib.Omega.{arith}
 use borrow.Author.Tests.{ltb-true, ltb-false, leb-true}
 use lib.Dec.{leb, ltb}
-use lib.Ieee.{Float}
 use lib.ListN.{length, take, set, replicate}
 use lib.Seq.{set-out}
 use Rattle.floats.specs.Binary.{whole}
 use Rattle.lists.proofs.Bools.{cases, and-left, and-right}
 use Rattle.lists.proofs.Sums.{times-le}
-use Rattle.grid.specs.declared.Cell.{Cell}
 use Rattle.grid.specs.declared.Grid.{Grid}
 use Rattle.grid.specs.declared.Row.{Row}
 use Rattle.grid.specs.Grid.{cells, closing, angleCount}
 use Rattle.grid.specs.Map.{sheetIndex}
-use Rattle.ledger.specs.declared.Ledger.{Ledger}
-use Rattle.job_world.specs.declared.JobState.{JobState}
 use Rattle.job_world.proofs.Fronts.{held-within, held-beyond}
-use Rattle.job_world.specs.World.{world, begun, jobColumns, jobRows, jobCells, jobAngles, sizeTaken, emptyMap, emptied, withMap, withCount, withCosine, withAngle}
-use Rattle.job_world.specs.State.{jobMap, worldOf, stateOf}
+use Rattle.job_world.specs.World.{jobColumns, jobRows, jobCells, jobAngles, sizeTaken, emptyMap, withMap, withCount, withCosine, withAngle}
+use Rattle.job_world.specs.State.{jobMap, worldOf, stateOf, startState, gridState, countState, cosineState, angleState, ledgerState, StatesSeen}
 
 module _ {A : Type 0} where
   take-replicate : (k n : ℕ) (a : A) → k ≤ n → take k (replicate n a) ≡ replicate k a
@@ -36,7 +32,7 @@ module _ {A : Type 0} where
   take-set (suc n) (x ∷ l) zero a = refl
   take-set (suc n) (x ∷ l) (suc i) a = ap (λ (t : List A). x ∷ t) (take-set n l i a)
 
-  set-min : (l : List A) (k i : ℕ) (a : A) → length l ≡ k → set l (min i k) a ≡ set l i a
+  pub set-min : (l : List A) (k i : ℕ) (a : A) → length l ≡ k → set l (min i k) a ≡ set l i a
   set-min l k i a e =
       cases (ltb i k) (λ t. let h : i < k = ltb-true i k t in ap (λ (j : ℕ). set l j a) (omega arith))
       (λ t. let h : k ≤ i = ltb-false i k t in set-out l (min i k) a (omega arith) ∙ sym (set-out l i a (omega arith)))
@@ -63,46 +59,24 @@ module _ (g : Grid) (taken : sizeTaken g ≡ true) where
       let offsets : g .width / 2 + 1 ≤ jobColumns / 2 + 1 = omega (arith, width-taken) in
       omega (arith, times-le (g .height * g .height) (g .width / 2 + 1) (jobRows * jobRows) (jobColumns / 2 + 1) pairs offsets)
 
-  pub grid-begun : (l : Ledger) (counts : List ℕ) (angles cosines : List Float) (next : Ledger) → counts ≡ replicate jobCells 0 → angles ≡ replicate jobAngles (whole 0)
-      → cosines ≡ replicate jobRows (whole 1) → next ≡ emptied l
-      → stateOf (record { begun = true; grid = g; counts = counts; angles = angles; cosines = cosines; ledger = next })
-      ≡ begun (world (emptyMap g) (emptied l))
-  unfolding stateOf worldOf jobMap emptyMap
-  grid-begun l counts angles cosines next p q r s =
-      rw (
-        p,
-        q,
-        r,
-        s,
-        take-replicate {A = ℕ} (cells g) jobCells 0 cells-taken,
-        take-replicate (angleCount g) jobAngles (whole 0) angles-taken,
-        take-replicate (g .height) jobRows (whole 1) height-taken,
-      )
+-- ---- what is seen of a state: a change of one place is that change of the map
 
--- ---- a change of one place
-
-module _ (s : JobState) (l : Ledger) (kept : l ≡ emptied (s .ledger)) where
-  pub count-changed : (x : Cell) (n : ℕ) (counts : List ℕ) → counts ≡ set (s .counts) (x .row .0 * s .grid .width + x .col .0) n
-      → stateOf (record { begun = true; grid = s .grid; counts = counts; angles = s .angles; cosines = s .cosines; ledger = l })
-      ≡ begun (withMap (worldOf s) (withCount (jobMap s) x n))
-  unfolding stateOf worldOf jobMap withMap withCount
-  count-changed x n counts e = rw (e, kept, take-set (cells (s .grid)) (s .counts) (x .row .0 * s .grid .width + x .col .0) n)
-
-  pub cosine-changed : (row : Row) (x : Float) (cosines : List Float) → cosines ≡ set (s .cosines) (row .0) x
-      → stateOf (record { begun = true; grid = s .grid; counts = s .counts; angles = s .angles; cosines = cosines; ledger = l })
-      ≡ begun (withMap (worldOf s) (withCosine (jobMap s) row x))
-  unfolding stateOf worldOf jobMap withMap withCosine
-  cosine-changed row x cosines e = rw (e, kept, take-set (s .grid .height) (s .cosines) (row .0) x)
-
-  pub angle-changed : (centre row : Row) (offset : ℕ) (x : Float) (angles : List Float) → length (s .angles) ≡ jobAngles
-      → angles ≡ set (s .angles) (min (sheetIndex (s .grid) centre row offset) jobAngles) x
-      → stateOf (record { begun = true; grid = s .grid; counts = s .counts; angles = angles; cosines = s .cosines; ledger = l })
-      ≡ begun (withMap (worldOf s) (withAngle (jobMap s) centre row offset x))
-  unfolding stateOf worldOf jobMap withMap withAngle
-  angle-changed centre row offset x angles sized e =
-      let i : ℕ = sheetIndex (s .grid) centre row offset in
-      let f : angles ≡ set (s .angles) i x = e ∙ set-min (s .angles) jobAngles i x sized in
-      rw (f, kept, take-set (angleCount (s .grid)) (s .angles) i x)
+pub states-seen : StatesSeen
+unfolding stateOf worldOf jobMap emptyMap withMap withCount withCosine withAngle startState gridState countState cosineState angleState ledgerState
+states-seen =
+    record {
+      start = refl;
+      grid = λ l g taken.
+          rw (
+            take-replicate {A = ℕ} (cells g) jobCells 0 (cells-taken g taken),
+            take-replicate (angleCount g) jobAngles (whole 0) (angles-taken g taken),
+            take-replicate (g .height) jobRows (whole 1) (height-taken g taken),
+          );
+      count = λ s x n. rw (take-set (cells (s .grid)) (s .counts) (x .row .0 * s .grid .width + x .col .0) n);
+      cosine = λ s row x. rw (take-set (s .grid .height) (s .cosines) (row .0) x);
+      angle = λ s centre row offset x. rw (take-set (angleCount (s .grid)) (s .angles) (sheetIndex (s .grid) centre row offset) x);
+      ledger = λ s l. refl;
+    }
 
 -- ---- the place of an angle, at most jobAngles
 

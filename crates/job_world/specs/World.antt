@@ -1,6 +1,6 @@
 -- The world under way in a job: a map and its ledger, and what is set in it.
 use Prim.Native.Nat.{ℕ, _+_, _*_, _/_}
-use mathlib.Core.Bool.{Bool, _&&_}
+use mathlib.Core.Bool.{Bool, cond, _&&_}
 use lib.Dec.{leb, ltb}
 use lib.Ieee.{Float}
 use lib.ListN.{set, replicate}
@@ -8,10 +8,14 @@ use Rattle.floats.specs.Binary.{whole}
 use Rattle.grid.specs.declared.Cell.{Cell}
 use Rattle.grid.specs.declared.Grid.{Grid}
 use Rattle.grid.specs.declared.Row.{Row}
-use Rattle.grid.specs.Grid.{cells, closing, angleCount}
+use Rattle.grid.specs.Grid.{onGrid, cells, closing, angleCount}
 use Rattle.grid.specs.Map.{Map, lentMap, sheetIndex}
 use Rattle.ledger.specs.declared.Ledger.{Ledger}
 use Rattle.ledger.specs.Ledger.{noEntries}
+use Rattle.job_world.specs.declared.CellFound.{CellFound}
+use Rattle.job_world.specs.declared.CellFound.the-variants as cell-found
+use Rattle.job_world.specs.declared.AngleFound.{AngleFound}
+use Rattle.job_world.specs.declared.AngleFound.the-variants as angle-found
 
 -- a map under way, and its ledger
 pub record World : Type 0 where
@@ -84,7 +88,14 @@ rowOn g row = ltb (row .0) (g .height)
 unfoldable pub angleOn : Grid → Row → Row → ℕ → Bool
 angleOn g centre row offset = rowOn g centre && rowOn g row && leb offset (closing g)
 
+-- the cell of C, and the rows and the offset of A, where they are
+unfoldable pub cellFound : Grid → Cell → CellFound
+cellFound g x = cond (onGrid g x) (cell-found.On x) cell-found.Off
+
+unfoldable pub angleFound : Grid → Row → Row → ℕ → AngleFound
+angleFound g centre row offset = cond (angleOn g centre row offset) (angle-found.On centre row offset) angle-found.Off
+
 -- opens all of the above, for facts that are computed
 unfoldable pub open-worlds : Unit {0}
-unfolding sizeTaken emptyMap emptied withMap withCount withCosine withAngle rowOn angleOn
+unfolding sizeTaken emptyMap emptied withMap withCount withCosine withAngle rowOn angleOn cellFound angleFound
 open-worlds = tt

@@ -2,13 +2,15 @@
 mod sizes;
 mod state;
 
+use grid::Cell;
 use grid::Grid;
+use grid::Row;
 use ledger::Ledger;
 pub use sizes::angle_on;
 pub use sizes::angle_places;
+pub use sizes::cell_on;
 pub use sizes::cosine_places;
 pub use sizes::count_places;
-pub use sizes::row_on;
 pub use sizes::size_taken;
 pub use state::start;
 pub use state::with_angle;
@@ -25,6 +27,17 @@ pub struct JobState {
     pub angles: [f64; JobState::ANGLES],
     pub cosines: [f64; JobState::ROWS as usize],
     pub ledger: Ledger,
+}
+
+// C's cell and A's rows and offset, where they are on the grid; K's row is the grid's own constructor's.
+pub enum CellFound {
+    On(Cell),
+    Off,
+}
+
+pub enum AngleFound {
+    On { centre: Row, row: Row, offset: u32 },
+    Off,
 }
 
 // The largest grid that a job takes, and what its map has: cells, angles, and words of its sums.

@@ -1,11 +1,16 @@
 // What of a grid the arrays take: its size, the indices that are on it, and its places.
+use crate::AngleFound;
+use crate::CellFound;
 use crate::JobState;
+use grid::Cell;
+use grid::ColFound;
 use grid::Grid;
 use grid::Row;
+use grid::RowFound;
 ghost use mathlib.Core.Path.{_≡_};
 ghost use Prim.Native.Nat.{min};
 ghost use Rattle.grid.specs.Grid.{cells, angleCount};
-ghost use Rattle.job_world.specs.World.{sizeTaken, jobRows, jobCells, jobAngles, rowOn, angleOn};
+ghost use Rattle.job_world.specs.World.{sizeTaken, jobRows, jobCells, jobAngles, cellFound, angleFound};
 
 // Whether a job takes the grid.
 pub fn size_taken(grid: Grid) -> bool
@@ -17,24 +22,43 @@ pub fn size_taken(grid: Grid) -> bool
     grid.height <= JobState::ROWS
 }
 
-// Whether a K's row is on the grid.
-pub fn row_on(grid: Grid, row: Row) -> bool
-    ensures { λ r. ⌜ r ≡ rowOn grid row ⌝ }
+// A C's cell, by the row and the column that the grid has.
+pub fn cell_on(grid: Grid, cell: Cell) -> CellFound
+    ensures { λ r. ⌜ r ≡ cellFound grid cell ⌝ }
 {
-    row.0 < grid.height
+    let found_row = grid.row(cell.row.0);
+    let found_col = grid.col(cell.col.0);
+    match found_row {
+        RowFound::Off => CellFound::Off,
+        RowFound::On(row) => match found_col {
+            ColFound::Off => CellFound::Off,
+            ColFound::On(col) => CellFound::On(Cell { row, col }),
+        },
+    }
 }
 
-// Whether an A's rows are on the grid and its offset is at most closing.
-pub fn angle_on(grid: Grid, centre: Row, row: Row, offset: u32) -> bool
-    ensures { λ r. ⌜ r ≡ angleOn grid centre row offset ⌝ }
+// An A's rows, by those that the grid has, and its offset, where that is at most closing.
+pub fn angle_on(grid: Grid, centre: Row, row: Row, offset: u32) -> AngleFound
+    ensures { λ r. ⌜ r ≡ angleFound grid centre row offset ⌝ }
 {
-    if !row_on(grid, centre) {
-        return false;
+    let found_centre = grid.row(centre.0);
+    let found_row = grid.row(row.0);
+    match found_centre {
+        RowFound::Off => AngleFound::Off,
+        RowFound::On(from) => match found_row {
+            RowFound::Off => AngleFound::Off,
+            RowFound::On(to) => {
+                if grid::closing(grid) < offset {
+                    return AngleFound::Off;
+                }
+                AngleFound::On {
+                    centre: from,
+                    row: to,
+                    offset,
+                }
+            }
+        },
     }
-    if !row_on(grid, row) {
-        return false;
-    }
-    offset <= grid::closing(grid)
 }
 
 // How many places of the counts the map takes.

@@ -5,15 +5,12 @@ use grid::Grid;
 use grid::Row;
 use ledger::Ledger;
 ghost use mathlib.Core.Path.{_≡_};
-ghost use mathlib.Core.Bool.{true};
 ghost use Prim.Native.Nat.{_+_, _*_, min};
 ghost use lib.ListN.{set, replicate};
 ghost use Rattle.floats.specs.Binary.{whole};
 ghost use Rattle.grid.specs.Map.{sheetIndex};
-ghost use Rattle.ledger.specs.State.{freshLedger};
-ghost use Rattle.job_world.specs.World.{world, empty, begun, jobRows, jobCells, jobAngles, sizeTaken};
-ghost use Rattle.job_world.specs.World.{emptyMap, emptied, withMap, withCount, withCosine, withAngle};
-ghost use Rattle.job_world.specs.State.{jobMap, worldOf, stateOf};
+ghost use Rattle.job_world.specs.World.{jobRows, jobCells, jobAngles, emptied};
+ghost use Rattle.job_world.specs.State.{startState, gridState, countState, cosineState, angleState, ledgerState};
 
 // What is not set: counts and angles of 0, cosines of 1.
 fn zero_counts() -> [u32; JobState::CELLS]
@@ -36,7 +33,7 @@ fn unit_cosines() -> [f64; JobState::ROWS as usize]
 
 // The state before any command.
 pub fn start() -> JobState
-    ensures { λ r. ⌜ stateOf r ≡ empty freshLedger ⌝ }
+    ensures { λ r. ⌜ r ≡ startState ⌝ }
 {
     let grid = Grid {
         width: 0,
@@ -70,8 +67,7 @@ fn emptied(ledger: Ledger) -> Ledger
 
 // The state after G: a map with nothing set.
 pub fn with_grid(ledger: Ledger, grid: Grid) -> JobState
-    requires { ⌜ sizeTaken grid ≡ true ⌝ }
-    ensures { λ r. ⌜ stateOf r ≡ begun (world (emptyMap grid) (emptied ledger)) ⌝ }
+    ensures { λ r. ⌜ r ≡ gridState ledger grid ⌝ }
 {
     let counts = zero_counts();
     let angles = zero_angles();
@@ -151,7 +147,7 @@ fn angle_place(grid: Grid, centre: Row, row: Row, offset: u32) -> usize
 // The state after C, a map under way whatever the state was: that a job has begun is the caller's test. The ledger is
 // emptied by C, K and A, because its circles are those of the map before.
 pub fn with_count(state: JobState, cell: Cell, count: u32) -> JobState
-    ensures { λ r. ⌜ stateOf r ≡ begun (withMap (worldOf state) (withCount (jobMap state) cell count)) ⌝ }
+    ensures { λ r. ⌜ r ≡ countState state cell count ⌝ }
 {
     let grid = state.grid;
     let counts = state.counts;
@@ -166,7 +162,7 @@ pub fn with_count(state: JobState, cell: Cell, count: u32) -> JobState
 
 // The state after K.
 pub fn with_cosine(state: JobState, row: Row, cosine: f64) -> JobState
-    ensures { λ r. ⌜ stateOf r ≡ begun (withMap (worldOf state) (withCosine (jobMap state) row cosine)) ⌝ }
+    ensures { λ r. ⌜ r ≡ cosineState state row cosine ⌝ }
 {
     let cosines = state.cosines;
     let ledger = state.ledger;
@@ -180,7 +176,7 @@ pub fn with_cosine(state: JobState, row: Row, cosine: f64) -> JobState
 
 // The state after A.
 pub fn with_angle(state: JobState, centre: Row, row: Row, offset: u32, angle: f64) -> JobState
-    ensures { λ r. ⌜ stateOf r ≡ begun (withMap (worldOf state) (withAngle (jobMap state) centre row offset angle)) ⌝ }
+    ensures { λ r. ⌜ r ≡ angleState state centre row offset angle ⌝ }
 {
     let grid = state.grid;
     let angles = state.angles;
@@ -195,7 +191,7 @@ pub fn with_angle(state: JobState, centre: Row, row: Row, offset: u32, angle: f6
 
 // The state after R: its ledger is the call's.
 pub fn with_ledger(state: JobState, ledger: Ledger) -> JobState
-    ensures { λ r. ⌜ stateOf r ≡ begun (world (jobMap state) ledger) ⌝ }
+    ensures { λ r. ⌜ r ≡ ledgerState state ledger ⌝ }
 {
     let mut next = state;
     next.begun = true;

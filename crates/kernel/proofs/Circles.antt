@@ -4,7 +4,7 @@ use mathlib.Core.Path.{_≡_}
 use mathlib.Core.Bool.{Bool, true, false, cond}
 use native.Mathlib.Nat.{le-refl}
 use native.Mathlib.Omega.{arith}
-use lib.Dec.{T, lit≤}
+use lib.Dec.{T}
 use lib.Ieee.{Float, le, eq}
 use Rattle.floats.specs.Binary.{open-floats, whole}
 use Rattle.floats.proofs.Order.{le-trans}
@@ -16,6 +16,7 @@ use Rattle.grid.specs.declared.Grid.{Grid}
 use Rattle.grid.specs.Numbers.{π}
 use Rattle.grid.specs.Grid.{ceiling, angleOf, columnDistance}
 use Rattle.grid.specs.Map.{Globe}
+use Rattle.grid.proofs.Body.{ceiling-least, ceiling-most}
 use Rattle.grid.proofs.Distance.{distance-closing}
 use Rattle.grid.proofs.SheetOrder.{InOrder, angle-most}
 use Rattle.kernel.specs.Circle.{angleTo, inCircle}
@@ -36,8 +37,7 @@ pub whole-not-zero : (km : ℕ) → 1 ≤ km → km ≤ 2 ^ 53 → T (eq (whole 
 whole-not-zero km h l = not-zero km h l (whole km) (whole-le km km (le-refl km))
 
 ceiling-not-zero : (g : Grid) (x : Float) → T (le (whole (ceiling g)) x) → T (eq x (whole 0)) → ⊥
-unfolding ceiling
-ceiling-not-zero g x h = not-zero (ceiling g) (lit≤ tt) (lit≤ tt) x h
+ceiling-not-zero g x h = not-zero (ceiling g) (omega (arith, ceiling-least g)) (omega (arith, ceiling-most g)) x h
 
 -- ---- a cell in a circle
 

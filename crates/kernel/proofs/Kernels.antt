@@ -66,7 +66,7 @@ module _ (s : Globe) (c : Row) (km : Float) where
 
 -- a kernel by its last four fields
 abbrev pub made : Row → Float → ℕ → ℕ → List ℕ → List ℕ → Kernel
-made c km n e l u = record { row = c; km = km; north = n; end = e; reach = l; run = u }
+made c km n e l u = record { row = c; km = km; north = record { 0 = n }; end = e; reach = l; run = u }
 
 made-same : (c : Row) (km : Float) {n n′ e e′ : ℕ} {l l′ u u′ : List ℕ} → n ≡ n′ → e ≡ e′ → l ≡ l′ → u ≡ u′ → made c km n e l u ≡ made c km n′ e′ l′ u′
 made-same c km p q r t = rw (p, q, r, t)
@@ -125,7 +125,7 @@ module _ (s : Globe) (c : Row) (km : Float) (high : s .grid .height ≤ rowPlace
 
   module _ (q : InOrder s) where
     -- the rows missed north of the centre row come first
-    north-tests : (r : ℕ) → r < c .0 → missedNorth r ≡ ltb r (kernelOf s c km .north)
+    north-tests : (r : ℕ) → r < c .0 → missedNorth r ≡ ltb r (kernelOf s c km .north .0)
     unfolding kernelOf
     north-tests r h =
         count-tests missedNorth (c .0) r
@@ -148,7 +148,7 @@ module _ (s : Globe) (c : Row) (km : Float) (high : s .grid .height ≤ rowPlace
             let t = beyond s c km q on (c .0 + i) (c .0 + j) (omega arith) (omega arith) (inl (omega arith, omega arith)) z in
             absurd (omega (arith, ltb-true 0 (rowReach s c km (c .0 + j)) w, t)))
 
-    north-le : kernelOf s c km .north ≤ c .0
+    north-le : kernelOf s c km .north .0 ≤ c .0
     unfolding kernelOf
     north-le = count-le missedNorth (c .0)
 
@@ -163,11 +163,11 @@ module _ (s : Globe) (c : Row) (km : Float) (high : s .grid .height ≤ rowPlace
     abbrev at : ℕ → ℕ
     at r = getD (kernelOf s c km .reach) r 0
 
-    touched-at : (r : ℕ) → kernelOf s c km .north ≤ r → r < kernelOf s c km .end → 0 < at r
+    touched-at : (r : ℕ) → kernelOf s c km .north .0 ≤ r → r < kernelOf s c km .end → 0 < at r
     touched-at r h u =
         rw (kernel-reach r (omega (arith, end-le)))
         (elim (decLt r (c .0)) [
-          | yes p ↦ positive (λ z. let t = sym (north-tests r p) ∙ eq-eqb (rowReach s c km r) 0 z in omega (arith, ltb-true r (kernelOf s c km .north) t))
+          | yes p ↦ positive (λ z. let t = sym (north-tests r p) ∙ eq-eqb (rowReach s c km r) 0 z in omega (arith, ltb-true r (kernelOf s c km .north .0) t))
           | no p ↦
               let e : c .0 + (r - c .0) ≡ r = omega arith in
               let t = south-tests (r - c .0) (omega (arith, end-le)) ∙ lt-ltb (r - c .0) (kernelOf s c km .end - c .0) (omega arith) in
@@ -180,10 +180,10 @@ module _ (s : Globe) (c : Row) (km : Float) (high : s .grid .height ≤ rowPlace
           | no p ↦ absurd (some (omega arith))
         ]
 
-    missed-at : (r : ℕ) → (r < kernelOf s c km .north) ⊎ (kernelOf s c km .end ≤ r) → at r ≡ 0
+    missed-at : (r : ℕ) → (r < kernelOf s c km .north .0) ⊎ (kernelOf s c km .end ≤ r) → at r ≡ 0
     missed-at r (inl h) =
         let l : r < c .0 = omega (arith, north-le) in
-        kernel-reach r (omega arith) ∙ eqb-true (rowReach s c km r) 0 (north-tests r l ∙ lt-ltb r (kernelOf s c km .north) h)
+        kernel-reach r (omega arith) ∙ eqb-true (rowReach s c km r) 0 (north-tests r l ∙ lt-ltb r (kernelOf s c km .north .0) h)
     missed-at r (inr h) = elim (decLt r (s .grid .height)) [
       | yes p ↦
           let l : c .0 ≤ r = omega (arith, end-ge) in
@@ -205,7 +205,7 @@ module _ (s : Globe) (c : Row) (km : Float) (high : s .grid .height ≤ rowPlace
     abbrev until : ℕ → ℕ
     until r = getD (kernelOf s c km .run) r 0
 
-    reach-some : (r : ℕ) → kernelOf s c km .north ≤ r → r < kernelOf s c km .end → 0 < rowReach s c km r
+    reach-some : (r : ℕ) → kernelOf s c km .north .0 ≤ r → r < kernelOf s c km .end → 0 < rowReach s c km r
     reach-some r h u = omega (arith, touched-at r h u, kernel-reach r (omega (arith, end-le)))
 
     reach-last : rowReach s c km (kernelOf s c km .end) ≡ 0
@@ -214,7 +214,7 @@ module _ (s : Globe) (c : Row) (km : Float) (high : s .grid .height ≤ rowPlace
       | no p ↦ reach-off s c km (kernelOf s c km .end) (omega arith)
     ]
 
-    module _ (r : ℕ) (h : kernelOf s c km .north ≤ r) (u : r < kernelOf s c km .end) where
+    module _ (r : ℕ) (h : kernelOf s c km .north .0 ≤ r) (u : r < kernelOf s c km .end) where
       run-at : until r ≡ runEnd (rowReach s c km) (rowPlaces - r) r
       run-at = kernel-run r (omega (arith, end-le)) ∙ run-on s c km r (reach-some r h u)
 

@@ -10,7 +10,4 @@ pub mod Kernels
 pub mod Built
 pub mod Cells
 pub mod WholeGrid
-pub mod People
-pub mod Calls
 pub mod Placing
-pub mod Accepted

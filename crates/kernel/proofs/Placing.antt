@@ -1,7 +1,8 @@
--- What the kernel's functions ask and give: a kernel by its rows, one of a sheet on a table, and from an accepted map its sheet, a kernel
--- placed on its table and the circle's people.
+-- What the kernel's functions ask and give: a kernel by its rows, one at hand with its row, its radius and its people, and from an accepted map
+-- its sheet, a kernel placed on its table and the circle's people.
 use Prim.Native.Nat.{ℕ, _≤_, _<_}
-use mathlib.Core.Path.{_≡_, refl, ap, _∙_}
+use mathlib.Core.Path.{_≡_, refl, sym, ap, _∙_}
+use mathlib.Core.Bool.{true}
 use mathlib.Core.List.{List}
 use lib.Ieee.{Float}
 use native.Mathlib.Omega.{arith}
@@ -9,6 +10,7 @@ use Rattle.grid.specs.declared.Row.{Row}
 use Rattle.grid.specs.declared.Col.{Col}
 use Rattle.grid.specs.declared.Grid.{Grid}
 use Rattle.grid.specs.Map.{Globe, Map, angleAt, count, globeOf, sheetOf}
+use Rattle.grid.specs.Questions.{sizesInRange, sheetInOrder}
 use Rattle.grid.proofs.Answers.{Passed}
 use Rattle.grid.proofs.Sizes.{grid-sizes}
 use Rattle.grid.proofs.SheetOrder.{InOrder, in-order}
@@ -17,8 +19,8 @@ use Rattle.sums.specs.Requires.{Summed}
 use Rattle.kernel.specs.declared.Kernel.{Kernel}
 use Rattle.kernel.specs.Circle.{population}
 use Rattle.kernel.specs.Kernel.{reach, rowReach, rowRun, kernelOf, inKernel, kernelPopulation, rowPlaces}
-use Rattle.kernel.specs.Requires.{OnSheet, Banded, RunsJoined, CanSum}
-use Rattle.kernel.specs.State.{rowsOnly}
+use Rattle.kernel.specs.Requires.{OnSheet, CanSum}
+use Rattle.kernel.specs.State.{KernelAt, rowsOnly}
 use Rattle.kernel.proofs.Kernels.{kernel-banded, kernel-joined}
 use Rattle.kernel.proofs.Cells.{kernel-people}
 
@@ -51,24 +53,52 @@ pub rows-people : (m : Map) (k : Kernel) (col : Col) → kernelPopulation m (row
 unfolding kernelPopulation inKernel
 rows-people m k col = refl
 
--- ---- a kernel of a sheet, on a table
+-- ---- a kernel at hand
 
-module _ (g : Grid) (angles cosines : List Float) (row : Row) (km : Float) where
-  module _ (q : InOrder (globeOf g angles cosines)) (high : g .height ≤ rowPlaces) (on : row .0 < g .height) where
-    pub sheet-banded : Banded g (kernelOf (sheetOf g angles) row km)
-    sheet-banded = rw (kernel-sheet (globeOf g angles cosines) row km) (kernel-banded (globeOf g angles cosines) row km high on q)
+module _ (g : Grid) (angles : List Float) (row : Row) (km : Float) (k : Kernel) (is : KernelAt g angles row km k) where
+  pub kernel-row : k .row ≡ row
+  unfolding kernelOf
+  kernel-row = ap (λ (x : Kernel). x .row) is
 
-    pub sheet-joined : RunsJoined (kernelOf (sheetOf g angles) row km)
-    sheet-joined = rw (kernel-sheet (globeOf g angles cosines) row km) (kernel-joined (globeOf g angles cosines) row km high on q)
+  pub kernel-km : k .km ≡ km
+  unfolding kernelOf
+  kernel-km = ap (λ (x : Kernel). x .km) is
 
-    -- a kernel of the sheet over a table has the people of the circle of the map that they make
-    pub sheet-people : (sums : List ℕ) (col : Col)
-        → kernelPopulation (tableMap g sums) (kernelOf (sheetOf g angles) row km) col
-        ≡ population (globeMap (globeOf g angles cosines) sums) km (record { row = row; col = col })
-    sheet-people sums col =
-        let m = globeMap (globeOf g angles cosines) sums in
-        people-sheet m (kernelOf (sheetOf g angles) row km) col ∙ ap (λ (k : Kernel). kernelPopulation m k col) (kernel-sheet (m .globe) row km)
-        ∙ kernel-people m q high row on km col
+  -- kept for a row of the same number it is the kernel of that row, and so of its own
+  pub kernel-kept : (next : Row) → row .0 ≡ next .0 → KernelAt g angles next km k
+  kernel-kept next e = is ∙ (λ i. kernelOf (sheetOf g angles) (record { 0 = e i }) km)
+
+  pub kernel-own : KernelAt g angles (k .row) km k
+  kernel-own = kernel-kept (k .row) (sym (ap (λ (r : Row). r .0) kernel-row))
+
+  -- of a row of a sheet that has passed questions 1 and 6, and lent by its rows
+  module _ (cosines : List Float) (sizes : sizesInRange g ≡ true) (rules : sheetInOrder (globeOf g angles cosines) ≡ true)
+      (on : row .0 < g .height) (sums : List ℕ) (col : Col) where
+    abbrev s : Globe
+    s = globeOf g angles cosines
+
+    high : g .height ≤ rowPlaces
+    high = grid-sizes g sizes .rows
+
+    sheet-is : k ≡ kernelOf s row km
+    sheet-is = is ∙ kernel-sheet s row km
+
+    -- it can be summed on a table
+    pub lent-placed : Summed g sums → col .0 < g .width → CanSum g sums (rowsOf k) col
+    lent-placed t c =
+        rows-placed {k = k}
+        (record {
+          table = t;
+          band = rw sheet-is (kernel-banded s row km high on (in-order s rules));
+          runs = rw sheet-is (kernel-joined s row km high on (in-order s rules));
+          on = c;
+        })
+
+    -- to the people of its circle, on the map that the sheet and the table make
+    pub lent-people : kernelPopulation (tableMap g sums) (rowsOf k) col ≡ population (globeMap s sums) km (record { row = row; col = col })
+    lent-people =
+        rows-people (tableMap g sums) k col ∙ people-sheet (globeMap s sums) k col
+        ∙ ap (λ (x : Kernel). kernelPopulation (globeMap s sums) x col) sheet-is ∙ kernel-people (globeMap s sums) (in-order s rules) high row on km col
 
 -- ---- on a map that is accepted
 

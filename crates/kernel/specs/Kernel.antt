@@ -49,7 +49,7 @@ kernelOf s row km =
     record {
       row = row;
       km = km;
-      north = sumBelow (row .0) (λ r. one (eqb (rowReach s row km r) 0));
+      north = record { 0 = sumBelow (row .0) (λ r. one (eqb (rowReach s row km r) 0)) };
       end = row .0 + sumBelow (s .grid .height - row .0) (λ i. one (ltb 0 (rowReach s row km (row .0 + i))));
       reach = tabulate (rowReach s row km) rowPlaces;
       run = tabulate (rowRun s row km) rowPlaces;

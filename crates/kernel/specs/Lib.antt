@@ -2,4 +2,3 @@ pub mod Circle
 pub mod Kernel
 pub mod Requires
 pub mod State
-pub mod Call

@@ -47,17 +47,17 @@ pub record Outlined (reaches : List ℕ) (north end : ℕ) : Type 0 where
 
 -- the rows of a kernel's band are on the grid and touched, and no others are
 pub record Banded (g : Grid) (k : Kernel) : Type 0 where
-  pub north-on : k .north ≤ k .row .0
+  pub north-on : k .north .0 ≤ k .row .0
   pub end-on : k .row .0 ≤ k .end
   pub on : k .end ≤ g .height
-  pub touched : (r : ℕ) → k .north ≤ r → r < k .end → 0 < getD (k .reach) r 0
-  pub missed : (r : ℕ) → (r < k .north) ⊎ (k .end ≤ r) → getD (k .reach) r 0 ≡ 0
+  pub touched : (r : ℕ) → k .north .0 ≤ r → r < k .end → 0 < getD (k .reach) r 0
+  pub missed : (r : ℕ) → (r < k .north .0) ⊎ (k .end ≤ r) → getD (k .reach) r 0 ≡ 0
 
 -- a kernel's runs: each ends within the band, after its row, and has the reach of its row
 pub record RunsJoined (k : Kernel) : Type 0 where
-  pub onward : (r : ℕ) → k .north ≤ r → r < k .end → r < getD (k .run) r 0
-  pub within : (r : ℕ) → k .north ≤ r → r < k .end → getD (k .run) r 0 ≤ k .end
-  pub alike : (r : ℕ) → k .north ≤ r → r < k .end → (i : ℕ) → r ≤ i → i < getD (k .run) r 0 → getD (k .reach) i 0 ≡ getD (k .reach) r 0
+  pub onward : (r : ℕ) → k .north .0 ≤ r → r < k .end → r < getD (k .run) r 0
+  pub within : (r : ℕ) → k .north .0 ≤ r → r < k .end → getD (k .run) r 0 ≤ k .end
+  pub alike : (r : ℕ) → k .north .0 ≤ r → r < k .end → (i : ℕ) → r ≤ i → i < getD (k .run) r 0 → getD (k .reach) i 0 ≡ getD (k .reach) r 0
 
 -- a table, a kernel and a column of one grid
 pub record CanSum (g : Grid) (sums : List ℕ) (k : Kernel) (col : Col) : Type 0 where

@@ -1,4 +1,4 @@
--- Kernels under way: where an angle is passed in a row, and what the walks from the centre row outward leave in the arrays of reaches and runs.
+-- Kernels at hand and under way: where an angle is passed in a row, and what the walks from the centre row outward leave in the arrays of reaches and runs.
 use Prim.Native.Nat.{ℕ, _+_, _-_, _≤_, _<_}
 use mathlib.Core.Path.{_≡_}
 use mathlib.Core.Bool.{Bool, false, true}
@@ -8,13 +8,20 @@ use lib.ListN.{getD}
 use lib.Ieee.{Float, le, nan}
 use Rattle.floats.specs.Binary.{whole}
 use Rattle.grid.specs.declared.Row.{Row}
-use Rattle.grid.specs.Map.{Globe}
+use Rattle.grid.specs.declared.Grid.{Grid}
+use Rattle.grid.specs.Map.{Globe, sheetOf}
 use Rattle.kernel.specs.declared.Kernel.{Kernel}
-use Rattle.kernel.specs.Kernel.{reach, rowPlaces, runEnd}
+use Rattle.kernel.specs.Kernel.{reach, rowPlaces, runEnd, kernelOf}
+
+-- ---- at hand
+
+-- a kernel is that of a row and a radius
+abbrev pub KernelAt : Grid → List Float → Row → Float → Kernel → Type 0
+KernelAt g angles row km k = k ≡ kernelOf (sheetOf g angles) row km
 
 -- a kernel by its rows alone: nothing else of it counts for its people
-abbrev pub rowsOnly : ℕ → ℕ → List ℕ → List ℕ → Kernel
-rowsOnly north end reach run = record { row = record { 0 = north }; km = whole 0; north = north; end = end; reach = reach; run = run }
+abbrev pub rowsOnly : Row → ℕ → List ℕ → List ℕ → Kernel
+rowsOnly north end reach run = record { row = north; km = whole 0; north = north; end = end; reach = reach; run = run }
 
 -- ---- in a row
 

@@ -1,15 +1,9 @@
-// Kernels of circles, and what the single-circle call answers.
+// Kernels of circles: sets of cells, built for a row and a radius.
 mod band;
-mod call;
-mod cover;
 mod outward;
 mod runs;
 
 pub use band::build;
-pub use band::circle_population;
-pub use call::circle;
-pub use call::radius_in_range;
-pub use cover::covers;
 use grid::Row;
 pub use outward::within;
 
@@ -21,14 +15,8 @@ pub const ROWS: usize = grid::MOST_ROWS as usize;
 pub struct Kernel {
     pub row: Row,
     pub km: f64,
-    pub north: u32,
+    pub north: Row,
     pub end: u32,
     pub reach: [u8; ROWS],
     pub run: [u8; ROWS],
-}
-
-// The population of a circle, or the number of the question that refused it.
-pub enum CircleAnswer {
-    Population(u64),
-    Refused(u32),
 }

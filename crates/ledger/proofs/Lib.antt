@@ -4,5 +4,3 @@ pub mod Order
 pub mod Places
 pub mod Whole
 pub mod Putting
-pub mod Calls
-pub mod Lent

@@ -81,7 +81,12 @@ ledgerInOrder g l = leb (l .len) capacity && risingFrom 0 (entries l) && allInBo
 unfoldable pub placesFree : Ledger → ℕ → Bool
 placesFree l n = leb (l .len + n) capacity
 
+-- of a put: one, if its kilometre is new
+unfoldable pub placeFor : Ledger → Got → Bool
+placeFor l (Circle c) = true
+placeFor l Nothing = placesFree l 1
+
 -- opens all of the above, for facts that are computed
 unfoldable pub open-ledgers : Unit {0}
-unfolding entries withEntries find get enter put entryInBounds risingFrom allInBounds ledgerInOrder placesFree
+unfolding entries withEntries find get enter put entryInBounds risingFrom allInBounds ledgerInOrder placesFree placeFor
 open-ledgers = tt

@@ -1,4 +1,3 @@
 pub mod Ledger
-pub mod Call
 pub mod State
 pub mod Requires

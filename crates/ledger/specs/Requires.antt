@@ -8,8 +8,7 @@ use Rattle.candidates.specs.declared.Candidate.{Candidate}
 use Rattle.candidates.specs.Candidate.{centreOf}
 use Rattle.ledger.specs.declared.Entry.{Entry}
 use Rattle.ledger.specs.declared.Ledger.{Ledger}
-use Rattle.ledger.specs.Ledger.{capacity, entries, get, risingFrom}
-use Rattle.ledger.specs.Call.{placeFor}
+use Rattle.ledger.specs.Ledger.{capacity, entries, get, risingFrom, placeFor}
 
 -- a centre on the grid, whose people a binary64 counts exactly
 pub record InBounds (g : Grid) (c : Candidate) : Type 0 where

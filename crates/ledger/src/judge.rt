@@ -1,5 +1,6 @@
 // Questions 11 and 12, put to any ledger whatever.
 use crate::Entry;
+use crate::Got;
 use crate::Ledger;
 use grid::Cell;
 use grid::Grid;
@@ -8,7 +9,7 @@ ghost use mathlib.Core.Path.{_≡_};
 ghost use mathlib.Core.Bool.{_&&_};
 ghost use lib.Dec.{leb, ltb};
 ghost use Rattle.grid.specs.Grid.{ceiling};
-ghost use Rattle.ledger.specs.Ledger.{capacity, entryInBounds, ledgerInOrder, placesFree};
+ghost use Rattle.ledger.specs.Ledger.{capacity, entryInBounds, ledgerInOrder, placesFree, placeFor, get};
 
 // The largest population, 2^53: up to it a binary64 counts exactly.
 const MOST_POPULATION: u64 = 9007199254740992;
@@ -17,7 +18,7 @@ const MOST_POPULATION: u64 = 9007199254740992;
 fn below_ceiling(grid: Grid, km: u32) -> bool
     ensures { λ r. ⌜ r ≡ ltb km (ceiling grid) ⌝ }
 {
-    km < RadiusKm::CEILING
+    km < grid::ceiling(grid)
 }
 
 // Question 11 of one entry: kilometre below the ceiling, cell on the grid, population at most 2^53.
@@ -82,4 +83,14 @@ pub fn places_free(ledger: Ledger, n: usize) -> bool
         return false;
     }
     ledger.len <= Ledger::CAPACITY - n
+}
+
+// Question 12 of a put: an entry of the kilometre to replace, or a free place.
+pub fn place_for(ledger: Ledger, km: RadiusKm) -> bool
+    ensures { λ r. ⌜ r ≡ placeFor ledger (get ledger (km .0)) ⌝ }
+{
+    match crate::get(ledger, km) {
+        Got::Circle(_) => true,
+        Got::Nothing => places_free(ledger, 1),
+    }
 }

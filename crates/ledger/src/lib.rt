@@ -1,15 +1,12 @@
-// The ledger of best circles by whole kilometre: get, put, the questions that judge it, and the put call.
-mod call;
+// The ledger of best circles by whole kilometre: get, put, and the questions that judge it.
 mod judge;
 mod store;
 
-pub use call::put_by_lending;
-pub use call::put_entry;
-pub use call::put_lent;
 use candidates::Candidate;
 use grid::RadiusKm;
 pub use judge::entry_in_bounds;
 pub use judge::ledger_in_order;
+pub use judge::place_for;
 pub use judge::places_free;
 pub use store::fresh;
 pub use store::get;
@@ -36,16 +33,4 @@ impl Ledger {
 pub enum Got {
     Circle(Candidate),
     Nothing,
-}
-
-// Put, or refused with the number of the first question that was answered no.
-pub enum PutAnswer {
-    Done,
-    Refused(u32),
-}
-
-// A put's answer beside the ledger after it: an enum cannot hold the places.
-pub struct PutResult {
-    pub answer: PutAnswer,
-    pub ledger: Ledger,
 }

@@ -11,7 +11,8 @@ use Rattle.lists.specs.Counted.{one}
 use Rattle.lists.specs.Lists.{concatEach, sort}
 use Rattle.lists.proofs.Bools.{cond-case}
 use Rattle.lists.proofs.Folds.{concat-append, concat-snoc}
-use Rattle.lists.proofs.Elements.{AllOf, none, also, all-zip, all-map, all-append, all-left, all-right, total, total-append}
+use Rattle.lists.specs.Elements.{AllOf, none, also, totalOf}
+use Rattle.lists.proofs.Elements.{all-zip, all-map, all-append, all-left, all-right, total-append}
 use Rattle.lists.proofs.Sorts.{all-sort, total-sort, length-sort}
 use Rattle.grid.specs.declared.Grid.{Grid}
 use Rattle.grid.specs.Map.{Map}
@@ -40,11 +41,11 @@ children-split : (g : Grid) (n : ℕ) (b : Block) → Splits g (suc n) b → All
 children-split g n b s =
     all-zip (λ c r l. record { rectangle = r; short = omega (arith, s .short) }) (split-rectangle g b (s .rectangle)) (split-shorter g b (s .rectangle))
 
-area-snoc : (xs : List Block) (b : Block) → total area (concatEach split (xs ++ b ∷ [])) ≡ total area (concatEach split xs) + total area (split b)
-area-snoc xs b = ap (total area) (concat-snoc split xs b) ∙ total-append area (concatEach split xs) (split b)
+area-snoc : (xs : List Block) (b : Block) → totalOf area (concatEach split (xs ++ b ∷ [])) ≡ totalOf area (concatEach split xs) + totalOf area (split b)
+area-snoc xs b = ap (totalOf area) (concat-snoc split xs b) ∙ total-append area (concatEach split xs) (split b)
 
-area-join : (xs ys : List Block) → total area (concatEach split (xs ++ ys)) ≡ total area (concatEach split xs) + total area (concatEach split ys)
-area-join xs ys = ap (total area) (concat-append split xs ys) ∙ total-append area (concatEach split xs) (concatEach split ys)
+area-join : (xs ys : List Block) → totalOf area (concatEach split (xs ++ ys)) ≡ totalOf area (concatEach split xs) + totalOf area (concatEach split ys)
+area-join xs ys = ap (totalOf area) (concat-append split xs ys) ∙ total-append area (concatEach split xs) (concatEach split ys)
 
 -- ---- from one outcome to another the blocks bs are examined, in so many chunks of their own
 
@@ -57,7 +58,7 @@ abbrev pub decided : Tally → ℕ
 decided t = t .stats .«blocks_pruned» + t .stats .«circles_evaluated»
 
 pub record Counts (g : Grid) (n : ℕ) (o p : Outcome) (bs : List Block) : Type 0 where
-  pub cells : ended (p .tally) + total area (next p) ≡ ended (o .tally) + total area (next o) + total area bs
+  pub cells : ended (p .tally) + totalOf area (next p) ≡ ended (o .tally) + totalOf area (next o) + totalOf area bs
   pub small : (k : ℕ) → AllOf (Splits g (suc k)) bs → AllOf (Splits g k) (next o) → AllOf (Splits g k) (next p)
   pub levels : p .tally .stats .levels ≡ o .tally .stats .levels
   pub examined : p .tally .stats .«blocks_examined» ≡ o .tally .stats .«blocks_examined» + length bs
@@ -84,7 +85,7 @@ head (also p a) = p
 
 module _ (g : Grid) where
   counts-nothing : (o : Outcome) → Counts g 0 o o []
-  unfolding total
+  unfolding totalOf
   counts-nothing o =
       record {
         cells = omega arith;
@@ -112,7 +113,7 @@ module _ (g : Grid) where
   -- ---- one block
 
   pruned-counts : (w : Work) (b : Block) (wide : Float) → Counts g 0 (w .outcome) (pruned w b wide .outcome) (b ∷ [])
-  unfolding pruned plus plusStats total
+  unfolding pruned plus plusStats totalOf
   pruned-counts w b wide =
       record {
         cells = omega arith;
@@ -126,7 +127,7 @@ module _ (g : Grid) where
 
   evaluated-counts : (m : Map) (km : Float) (w : Work) (b : Block) (wide : Float) → Rectangle g b
       → Counts g 0 (w .outcome) (evaluated m km w b wide .outcome) (b ∷ [])
-  unfolding evaluated plus plusStats total
+  unfolding evaluated plus plusStats totalOf
   evaluated-counts m km w b wide r =
       let old = w .outcome .survivors in
       record {
@@ -150,7 +151,7 @@ module _ (g : Grid) where
 
   chunk-counts : (m : Map) (km : Float) (best : Held) (o p : Outcome) (bs : List Block) → Counts g 0 (started m km best .outcome) p bs
       → Counts g 1 o (joined o p) bs
-  unfolding joined started plus plusStats total concatEach
+  unfolding joined started plus plusStats totalOf concatEach
   chunk-counts m km best o p bs s =
       record {
         cells = omega (arith, s .cells, area-join (o .survivors) (p .survivors));
@@ -177,10 +178,10 @@ next-rectangles g n o p bs s e rs =
 
 -- from nothing on, the blocks of the next level are at most as many as the cells of the blocks examined
 pub next-fits : (g : Grid) (n : ℕ) (o p : Outcome) (bs : List Block) → Counts g n o p bs → next o ≡ [] → ended (o .tally) ≡ 0 → AllOf (Rectangle g) bs
-    → length (next p) + ended (p .tally) ≤ total area bs
-unfolding total
+    → length (next p) + ended (p .tally) ≤ totalOf area bs
+unfolding totalOf
 next-fits g n o p bs s e z rs =
-    let none-left : total area (next o) ≡ 0 = rw e in
+    let none-left : totalOf area (next o) ≡ 0 = rw e in
     omega (arith, length-area g (next-rectangles g n o p bs s e rs), s .cells)
 
 pub counts-kept : (m : Map) (km : Float) (best : Held) → Kept m km best (Counts (m .globe .grid))
@@ -192,7 +193,7 @@ counts-kept m km best =
 
 -- what a level of the blocks bs comes to
 pub record LevelCounts (g : Grid) (p : Outcome) (bs : List Block) : Type 0 where
-  pub cells : ended (p .tally) + total area (next p) ≡ total area bs
+  pub cells : ended (p .tally) + totalOf area (next p) ≡ totalOf area bs
   pub small : (k : ℕ) → AllOf (Splits g (suc k)) bs → AllOf (Splits g k) (next p)
   pub levels : p .tally .stats .levels ≡ 1
   pub examined : p .tally .stats .«blocks_examined» ≡ length bs
@@ -203,7 +204,7 @@ pub record LevelCounts (g : Grid) (p : Outcome) (bs : List Block) : Type 0 where
 
 pub level-counts : (m : Map) (km : Float) (best : Held) (bs : List Block) → AllOf (Rectangle (m .globe .grid)) bs
     → LevelCounts (m .globe .grid) (level m km best bs) bs
-unfolding total concatEach
+unfolding totalOf concatEach
 level-counts m km best bs rs =
     let s = level-rule m km best (Counts (m .globe .grid)) (counts-kept m km best) bs rs in
     let l = length-sort byProbe bs in

@@ -10,7 +10,8 @@ use lib.Ieee.{Float}
 use Rattle.lists.specs.Lists.{concatEach, sort}
 use Rattle.lists.proofs.Bools.{cond-case, cases}
 use Rattle.lists.proofs.Folds.{concat-append, concat-snoc}
-use Rattle.lists.proofs.Elements.{AllOf, AnyOf, here, there, any-left, any-right, any-append}
+use Rattle.lists.specs.Elements.{AllOf}
+use Rattle.lists.proofs.Elements.{AnyOf, here, there, any-left, any-right, any-append}
 use Rattle.lists.proofs.Sorts.{any-sort}
 use Rattle.grid.specs.declared.Cell.{Cell}
 use Rattle.grid.specs.Grid.{onGrid}

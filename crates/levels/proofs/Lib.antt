@@ -2,8 +2,4 @@
 pub mod Rule
 pub mod Counts
 pub mod Finds
-pub mod Serving
 pub mod OneBlock
-pub mod Spans
-pub mod Sweeps
-pub mod Chunks

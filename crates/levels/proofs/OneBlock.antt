@@ -14,16 +14,16 @@ use Rattle.lists.proofs.Sums.{times-le}
 use Rattle.grid.specs.declared.Cell.{Cell}
 use Rattle.grid.specs.declared.Grid.{Grid}
 use Rattle.grid.specs.Grid.{mostColumns, mostRows, closing}
-use Rattle.grid.specs.Map.{Map, globeOf, sheetOf}
+use Rattle.grid.specs.Map.{Map, globeOf}
 use Rattle.grid.specs.Questions.{sheetComplete}
 use Rattle.grid.proofs.Sizes.{Sizes, grid-sizes}
-use Rattle.grid.proofs.SheetOrder.{InOrder, in-order}
 use Rattle.sums.specs.State.{tableMap}
 use Rattle.kernel.specs.declared.Kernel.{Kernel}
 use Rattle.kernel.specs.Circle.{population}
-use Rattle.kernel.specs.Kernel.{kernelOf, kernelPopulation}
-use Rattle.kernel.specs.Requires.{Sheet, CanSum, Banded, RunsJoined}
-use Rattle.kernel.proofs.Placing.{rowsOf, rows-placed, rows-people, sheet-banded, sheet-joined, sheet-people}
+use Rattle.kernel.specs.Kernel.{kernelPopulation}
+use Rattle.kernel.specs.State.{KernelAt}
+use Rattle.kernel.specs.Requires.{Sheet, CanSum}
+use Rattle.kernel.proofs.Placing.{rowsOf, lent-placed, lent-people}
 use Rattle.blocks.specs.declared.Block.{Block}
 use Rattle.blocks.specs.Block.{area, isCell, probe, Rectangle}
 use Rattle.blocks.specs.Requires.{Small}
@@ -52,9 +52,6 @@ module _ (g : Grid) (angles cosines : List Float) (sums : List ℕ) (t : Ready g
   pub ready-sheet : Sheet g angles
   ready-sheet = record { cosines = cosines; sizes = t .sizes; complete = t .complete; order = t .order }
 
-  ready-order : InOrder (globeOf g angles cosines)
-  ready-order = in-order (globeOf g angles cosines) (t .order)
-
   pub ready-cosines : length cosines ≡ g .height
   unfolding sheetComplete
   ready-cosines = eqb-true _ _ (and-right (eqb (length angles) (g .height * g .height * (closing g + 1))) (eqb (length cosines) (g .height)) (t .complete))
@@ -76,23 +73,17 @@ module _ (g : Grid) (angles cosines : List Float) (sums : List ℕ) (t : Ready g
     block-narrow =
         times-le (b .last .0 + 1 - b .first .0) (b .south .0 + 1 - b .north .0) mostColumns mostRows (omega (arith, r .east, ready-sizes .columns)) (omega (arith, r .south, ready-sizes .rows))
 
-    -- a kernel of the probe's row, around the probe's column
-    module _ (p : Cell) (p-is : p ≡ probe b) (km : Float) (k : Kernel) (is : k ≡ kernelOf (sheetOf g angles) (probe b .row) km) where
+    -- a kernel of the probe's row, lent, around the probe's column
+    module _ (p : Cell) (p-is : p ≡ probe b) (km : Float) (k : Kernel) (is : KernelAt g angles (probe b .row) km k) where
       pub probe-placed : CanSum g sums (rowsOf k) (p .col)
       probe-placed =
-          rows-placed
-          (record {
-            table = t .table;
-            band = subst (Banded g) (sym is) (sheet-banded g angles cosines (probe b .row) km ready-order (ready-sizes .rows) probe-row);
-            runs = subst RunsJoined (sym is) (sheet-joined g angles cosines (probe b .row) km ready-order (ready-sizes .rows) probe-row);
-            on = subst (λ (x : Cell). x .col .0 < g .width) (sym p-is) probe-column;
-          })
+          subst (λ (x : Cell). CanSum g sums (rowsOf k) (x .col)) (sym p-is)
+          (lent-placed g angles (probe b .row) km k is cosines (t .sizes) (t .order) probe-row sums (probe b .col) (t .table) probe-column)
 
       pub probe-people : kernelPopulation (tableMap g sums) (rowsOf k) (p .col) ≡ population m km (probe b)
       probe-people =
           ap (λ (x : Cell). kernelPopulation (tableMap g sums) (rowsOf k) (x .col)) p-is
-          ∙ rows-people (tableMap g sums) k (probe b .col) ∙ ap (λ (x : Kernel). kernelPopulation (tableMap g sums) x (probe b .col)) is
-          ∙ sheet-people g angles cosines (probe b .row) km ready-order (ready-sizes .rows) probe-row sums (probe b .col)
+          ∙ lent-people g angles (probe b .row) km k is cosines (t .sizes) (t .order) probe-row sums (probe b .col)
 
     pub can-count : (w : ChunkWork) → weight (w .tally) ≤ 2 ^ 30 → CanCount w b
     can-count w light = record { light = light; small = block-small; narrow = omega (arith, block-narrow) }

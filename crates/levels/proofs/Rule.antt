@@ -9,7 +9,8 @@ use lib.Ieee.{Float}
 use lib.ListN.{length, drop}
 use Rattle.lists.specs.Counted.{max, divCeil}
 use Rattle.lists.specs.Lists.{fold, each, concatEach, sort, pieces}
-use Rattle.lists.proofs.Elements.{AllOf, none, also, all-left, all-right}
+use Rattle.lists.specs.Elements.{AllOf, none, also}
+use Rattle.lists.proofs.Elements.{all-left, all-right}
 use Rattle.lists.proofs.Sorts.{all-sort, pieces-whole, all-pieces}
 use Rattle.grid.specs.Map.{Map}
 use Rattle.blocks.specs.declared.Block.{Block}

@@ -5,7 +5,7 @@ use mathlib.Core.Bool.{true}
 use mathlib.Core.List.{List}
 use lib.Ieee.{Float}
 use lib.ListN.{length}
-use Rattle.lists.proofs.Elements.{AllOf, total}
+use Rattle.lists.specs.Elements.{AllOf, totalOf}
 use Rattle.grid.specs.declared.Grid.{Grid}
 use Rattle.grid.specs.Grid.{mostColumns, mostRows}
 use Rattle.grid.specs.Map.{globeOf}
@@ -37,8 +37,8 @@ pub record CanCount (w : ChunkWork) (b : Block) : Type 0 where
 -- blocks on the grid, at most as many cells as it has, and room for their children from place live on
 pub record CanSweep (g : Grid) (bs : List Block) (following : List ℕ) (live : ℕ) : Type 0 where
   pub rectangles : AllOf (Rectangle g) bs
-  pub narrow : total area bs ≤ mostCells
-  pub room : live + total area bs ≤ length following
+  pub narrow : totalOf area bs ≤ mostCells
+  pub room : live + totalOf area bs ≤ length following
 
 -- the words of a chunk are in the buffer
 pub record ChunkWords (current : List ℕ) (start end : ℕ) : Type 0 where

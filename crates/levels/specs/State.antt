@@ -1,18 +1,18 @@
 -- A level as the code carries it: the map by its sums, a chunk at work with its kernels, and the children in the other buffer.
-use Prim.Native.Nat.{ℕ, _+_, _/_, _-_}
+use Prim.Native.Nat.{ℕ, _+_, _/_, _%_, _-_}
 use mathlib.Core.Path.{_≡_}
-use mathlib.Core.Bool.{true}
+use mathlib.Core.Bool.{Bool, true}
 use mathlib.Core.List.{List, []}
+use lib.Dec.{eqb}
 use lib.Ieee.{Float}
 use lib.ListN.{take, drop}
 use Rattle.lists.specs.Counted.{one}
 use Rattle.lists.specs.Lists.{each, concatEach}
 use Rattle.grid.specs.declared.Row.{Row}
 use Rattle.grid.specs.declared.Grid.{Grid}
-use Rattle.grid.specs.Map.{Map, globeOf, sheetOf}
+use Rattle.grid.specs.Map.{Map, globeOf}
 use Rattle.sums.specs.State.{globeMap}
 use Rattle.kernel.specs.declared.Kernel.{Kernel}
-use Rattle.kernel.specs.Kernel.{kernelOf}
 use Rattle.blocks.specs.declared.Block.{Block}
 use Rattle.blocks.specs.Block.{area, isCell, probe, range, block, sameShape, Rectangle, split}
 use Rattle.blocks.specs.State.{wordOf, blockOf, Written}
@@ -52,10 +52,6 @@ workOf w bs =
       exactRow = w .«exact_row»;
     }
 
--- a kernel is that of its row and a radius
-abbrev pub KernelAt : Grid → List Float → Float → Kernel → Type 0
-KernelAt g angles km k = k ≡ kernelOf (sheetOf g angles) (k .row) km
-
 -- a kernel serves a shape: it is the wide kernel of every block of that shape
 abbrev pub Serves : Grid → List Float → List Float → Float → Block → Kernel → Type 0
 Serves g angles cosines km shape k = (b : Block) → Rectangle g b → sameShape shape b ≡ true → k ≡ wideKernel (globeOf g angles cosines) km b
@@ -63,6 +59,10 @@ Serves g angles cosines km shape k = (b : Block) → Rectangle g b → sameShape
 -- the shape of no block
 unfoldable pub noShape : Block
 noShape = block (range 1 0) (range 0 0)
+
+-- a block has an odd number of columns: its first and its last are both even or both odd
+unfoldable pub oddColumns : Block → Bool
+oddColumns b = eqb (b .first .0 % 2) (b .last .0 % 2)
 
 -- a chunk after a block that is pruned: the kernels counted hang on no survivor
 unfoldable pub prunedWork : ChunkWork → Block → Float → ChunkWork

@@ -7,10 +7,10 @@ ghost use mathlib.Core.Bool.{not, _&&_};
 ghost use lib.Ieee.{eq};
 ghost use lib.Dec.{eqb};
 ghost use Rattle.lists.specs.Counted.{one};
-ghost use Rattle.levels.specs.State.{noShape};
+ghost use Rattle.levels.specs.State.{noShape, oddColumns};
 
 // Whether two rows are the same.
-pub(crate) fn same_row(row: Row, next: Row) -> bool
+pub fn same_row(row: Row, next: Row) -> bool
     ensures { λ r. ⌜ r ≡ eqb (row .0) (next .0) ⌝ }
 {
     row.0 == next.0
@@ -42,7 +42,7 @@ pub(crate) fn built(same: bool) -> u64
 }
 
 // The shape of no block: its south row lies north of its north row.
-pub(crate) fn no_shape() -> Block
+pub fn no_shape() -> Block
     ensures { λ r. ⌜ r ≡ noShape ⌝ }
 {
     Block {
@@ -55,6 +55,8 @@ pub(crate) fn no_shape() -> Block
 
 // Which of two wide kernels a block goes by. Either is right; only speed rests on it: along a row the blocks of a level alternate between
 // two widths, one column apart, and so between two radii.
-pub(crate) fn odd_columns(block: Block) -> bool {
+pub fn odd_columns(block: Block) -> bool
+    ensures { λ r. ⌜ r ≡ oddColumns block ⌝ }
+{
     block.first.0 % 2 == block.last.0 % 2
 }

@@ -1,15 +1,18 @@
-// One level of a search: its chunks, its counts, and the children that it leaves.
+// One level of a search: what a chunk holds, counts and keeps at hand, block by block. Crate `sweep` goes through the blocks.
 mod add;
-mod cut;
 mod kept;
-mod sweep;
 mod work;
 
 pub use add::plus;
 pub use add::plus_stats;
 use candidates::Held;
-pub use cut::level;
 use grid::Row;
+pub use kept::no_shape;
+pub use kept::odd_columns;
+pub use kept::same_row;
+pub use work::asks;
+pub use work::examined;
+pub use work::survives;
 
 // The counts of the original.
 pub struct SearchStats {

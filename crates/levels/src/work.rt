@@ -86,7 +86,7 @@ fn evaluated(work: ChunkWork, block: Block, wide: f64, population: u64) -> Chunk
 }
 
 // A chunk after a block of this wide radius: a survivor's probe has this population.
-pub(crate) fn examined(
+pub fn examined(
     work: ChunkWork,
     block: Block,
     wide: f64,
@@ -103,7 +103,7 @@ pub(crate) fn examined(
 }
 
 // A block survives where its bound does not prune it.
-pub(crate) fn survives(work: ChunkWork, bound: u64) -> bool
+pub fn survives(work: ChunkWork, bound: u64) -> bool
     ensures { λ r. ⌜ r ≡ not (prunes bound (work .held)) ⌝ }
 {
     let held = work.held;
@@ -115,7 +115,7 @@ pub(crate) fn survives(work: ChunkWork, bound: u64) -> bool
 }
 
 // A survivor asks for the population of its probe's circle, but where the wide circle has the plain radius, as that of a single cell has.
-pub(crate) fn asks(survives: bool, wide: f64, km: f64) -> bool
+pub fn asks(survives: bool, wide: f64, km: f64) -> bool
     ensures { λ r. ⌜ r ≡ (survives && not (eq wide km)) ⌝ }
 {
     if survives {

@@ -1,4 +1,4 @@
--- A property of every element, and of some element, of a list; and a sum over its elements.
+-- A property of some element of a list, elements that differ; laws of these, of a property of every element and of a sum over the elements.
 use Prim.Native.Nat.{ℕ, zero, suc, _+_, _<_}
 use mathlib.Core.Path.{_≡_, refl}
 use mathlib.Core.Logic.{_⊎_, inl, inr}
@@ -6,12 +6,9 @@ use mathlib.Core.List.{List, [], _∷_, _++_}
 use native.Mathlib.Omega.{arith}
 use lib.ListN.{length, take, drop, getD, take-append-drop}
 use Rattle.lists.specs.Lists.{each, concatEach}
+use Rattle.lists.specs.Elements.{AllOf, none, also, totalOf}
 
 module _ {A : Type 0} where
-  pub data AllOf (P : A → Type 0) : List A → Type 0 where
-    none : AllOf P []
-    also : {x : A} {xs : List A} → P x → AllOf P xs → AllOf P (x ∷ xs)
-
   pub data AnyOf (P : A → Type 0) : List A → Type 0 where
     here : {x : A} {xs : List A} → P x → AnyOf P (x ∷ xs)
     there : {x : A} {xs : List A} → AnyOf P xs → AnyOf P (x ∷ xs)
@@ -20,11 +17,6 @@ module _ {A : Type 0} where
   pub data Distinct : List A → Type 0 where
     empty : Distinct []
     new : {x : A} {xs : List A} → AllOf (λ y. x ≡ y → ⊥) xs → Distinct xs → Distinct (x ∷ xs)
-
-  -- f x₀ + f x₁ + ..
-  unfoldable pub total : (A → ℕ) → List A → ℕ
-  total f [] = 0
-  total f (x ∷ xs) = f x + total f xs
 
   -- ---- every element
 
@@ -84,13 +76,13 @@ module _ {A : Type 0} where
 
   -- ---- a sum over the elements
 
-  pub total-append : (f : A → ℕ) (xs ys : List A) → total f (xs ++ ys) ≡ total f xs + total f ys
-  unfolding total
+  pub total-append : (f : A → ℕ) (xs ys : List A) → totalOf f (xs ++ ys) ≡ totalOf f xs + totalOf f ys
+  unfolding totalOf
   total-append f [] ys = omega arith
   total-append f (x ∷ xs) ys = omega (arith, total-append f xs ys)
 
-  pub total-length : (xs : List A) → total (λ x. 1) xs ≡ length xs
-  unfolding total
+  pub total-length : (xs : List A) → totalOf (λ x. 1) xs ≡ length xs
+  unfolding totalOf
   total-length [] = refl
   total-length (x ∷ xs) = omega (arith, total-length xs)
 

@@ -3,5 +3,4 @@ pub mod States
 pub mod Kept
 pub mod AnySheet
 pub mod Probes
-pub mod RunLoop
-pub mod Ends
+pub mod Traces

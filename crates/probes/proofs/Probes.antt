@@ -20,7 +20,7 @@ use Rattle.ledger.specs.declared.Got.the-variants.{Circle, Nothing}
 use Rattle.ledger.specs.declared.Ledger.{Ledger}
 use Rattle.ledger.specs.Ledger.{entry, get, put}
 use Rattle.ledger.specs.Requires.{InBounds, PutRoom}
-use Rattle.ledger.proofs.Calls.{room-free}
+use Rattle.ledger.proofs.Putting.{room-free}
 use Rattle.ledger.proofs.Order.{got-in-bounds, ordered}
 use Rattle.probes.specs.declared.RunState.{RunState}
 use Rattle.probes.specs.Probes.{mostRadii}

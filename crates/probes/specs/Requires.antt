@@ -17,6 +17,7 @@ use Rattle.ledger.specs.Requires.{InBounds}
 use Rattle.share.specs.declared.Target.{Target}
 use Rattle.share.specs.Target.{targetOf, predicateSlackPersons}
 use Rattle.probes.specs.declared.RunState.{RunState}
+use Rattle.probes.specs.declared.RunEnd.{RunEnd}
 use Rattle.probes.specs.Probes.{mostRadii}
 use Rattle.probes.specs.State.{probeCount, radiiOf}
 
@@ -47,7 +48,7 @@ pub record CanRun (g : Grid) (angles cosines : List Float) (sums current followi
 -- ---- the end
 
 -- a sheet that question 6 let pass, people that a binary64 counts exactly, and the end of a run
-pub record CanConclude (g : Grid) (angles : List Float) (people : ℕ) (s : RunState) : Type 0 where
+pub record CanConclude (g : Grid) (angles : List Float) (people : ℕ) (e : RunEnd) : Type 0 where
   pub sheet : Sheet g angles
-  pub found : InBounds g (s .found)
+  pub centre : InBounds g (e .centre)
   pub exact : people ≤ 2 ^ 53

@@ -1,11 +1,13 @@
 -- How the code sees a run: what of the probes so far the answer needs, what a probe adds to it and keeps of it, and the answer at the end.
 use Prim.Native.Nat.{ℕ, _+_, _*_, _^_, _≤_}
 use mathlib.Core.Bool.{Bool, true, false, cond}
+use mathlib.Core.List.{List}
 use mathlib.Core.Path.{_≡_}
 use lib.Ieee.{Float}
 use Rattle.floats.specs.Binary.{whole}
 use Rattle.grid.specs.Map.{Map, Globe}
 use Rattle.grid.specs.declared.Grid.{Grid}
+use Rattle.grid.specs.Grid.{ceiling}
 use Rattle.sums.specs.Sums.{total}
 use Rattle.kernel.specs.Circle.{coversWholeGrid}
 use Rattle.bounds.specs.declared.Spacing.{Spacing}
@@ -20,8 +22,8 @@ use Rattle.ledger.specs.declared.Got.the-variants.{Circle, Nothing}
 use Rattle.ledger.specs.declared.Ledger.{Ledger}
 use Rattle.ledger.specs.Ledger.{entry, get, put, capacity, ledgerInOrder}
 use Rattle.ledger.specs.Requires.{InBounds}
-use Rattle.climb.specs.declared.Bracket.{Bracket}
-use Rattle.share.specs.Target.{targetOf, reaches, shareOf, predicateSlackPersons, withinSlack}
+use Rattle.climb.specs.Climb.{Ended, allShort, reachedAt}
+use Rattle.share.specs.Target.{reaches, shareOf, predicateSlackPersons, withinSlack}
 use Rattle.share.specs.declared.Target.{Target}
 use Rattle.probes.specs.declared.Ambiguity.{Ambiguity}
 use Rattle.probes.specs.declared.Ambiguity.the-variants as ambiguity-case
@@ -31,8 +33,9 @@ use Rattle.probes.specs.declared.Smallest.{Smallest}
 use Rattle.probes.specs.declared.RunState.{RunState}
 use Rattle.probes.specs.declared.SmallestStats.{SmallestStats}
 use Rattle.probes.specs.declared.RunEnd.{RunEnd}
-use Rattle.probes.specs.Probes.{mostRadii}
-use Rattle.probes.specs.Smallest.{widened, Settled, smallest}
+use Rattle.probes.specs.declared.Ran.{Ran}
+use Rattle.probes.specs.Probes.{mostRadii, targetPersons, Probe, Run, smallestRun, evaluatedIn, reusedIn, statsOf}
+use Rattle.probes.specs.Smallest.{shortBelow, widened, ambiguity}
 
 -- ---- the state before and after a probe
 
@@ -123,35 +126,46 @@ pub record InOrder (g : Grid) (l : Ledger) (s : RunState) : Type 0 where
 
 -- ---- the end
 
--- the answer of a run that has ended, given whether its circle is the whole grid
-abbrev pub answerWith : Target → Float → ℕ → Bracket → RunState → Bool → Smallest
-answerWith t slack people c s covers =
+-- the end at a radius with what was found there, from the probes
+unfoldable pub endAt : Map → Float → List Probe → ℕ → Bool → Candidate → RunEnd
+endAt m share trace km reached centre =
+    let persons = targetPersons m share in
     record {
-      «radius_km» = record { 0 = c .low };
-      centre = s .found;
-      target = t;
-      «share_achieved» = shareOf (s .found .population) people;
-      «short_below» = s .short;
-      «covers_whole_grid» = covers;
-      «predicate_slack_persons» = slack;
-      ambiguity = s .ambiguity;
-      «tolerance_persons» = whole 0;
-      stats = s .stats;
+      «radius_km» = record { 0 = km };
+      reached = reached;
+      centre = centre;
+      «short_below» = shortBelow persons km trace;
+      ambiguity = ambiguity persons (predicateSlackPersons (m .globe .grid) (whole (total m))) trace;
+      stats = counts (evaluatedIn trace) (reusedIn trace) (statsOf trace);
     }
 
--- at the ceiling, where all radii fell short, every circle is
-unfoldable pub answerBy : Globe → Target → Float → ℕ → Bracket → RunState → Smallest
-answerBy globe t slack people c s =
-    let covers = coversWholeGrid globe (whole (c .low)) (s .found .row) in
-    answerWith t slack people c s (cond (c .reached) covers true)
+-- where the climb and the bisection have ended; all short: the ceiling, cell (0, 0) and the total
+unfoldable pub ranTo : Map → Float → Ended Run Candidate → Ran
+ranTo m share (allShort r) = record { end = endAt m share (r .trace) (ceiling (m .globe .grid)) false (northWest (total m)); ledger = r .ledger }
+ranTo m share (reachedAt r km c) = record { end = endAt m share (r .trace) km true c; ledger = r .ledger }
 
--- the answer beside its ledger
-unfoldable pub settledBy : Map → Float → Bracket → RunState → Ledger → Settled
-settledBy m share c s l =
-    let slack = predicateSlackPersons (m .globe .grid) (whole (total m)) in
-    record { answer = answerBy (m .globe) (targetOf share (total m)) slack (total m) c s; ledger = l }
+-- the run from a ledger: its end, and the ledger after it
+unfoldable pub ran : Map → Spacing → Float → Ledger → Ran
+ran m spacing share l = ranTo m share (smallestRun m spacing share l)
 
--- a run that has ended, with the definition's answer and ledger
-pub record Ran (m : Map) (spacing : Spacing) (share : Float) (l : Ledger) (e : RunEnd) : Type 0 where
-  pub same : settledBy m share (e .bracket) (e .state) (e .ledger) ≡ smallest m spacing share l
-  pub found : InBounds (m .globe .grid) (e .state .found)
+-- whether the circle at the end is the whole grid: at the ceiling, where all radii fell short, every circle is
+unfoldable pub endCovers : Globe → RunEnd → Bool
+endCovers globe e =
+    let covers = coversWholeGrid globe (whole (e .«radius_km» .0)) (e .centre .row) in
+    cond (e .reached) covers true
+
+-- the answer of a run that has ended
+unfoldable pub answerBy : Globe → Target → Float → ℕ → RunEnd → Smallest
+answerBy globe t slack people e =
+    record {
+      «radius_km» = e .«radius_km»;
+      centre = e .centre;
+      target = t;
+      «share_achieved» = shareOf (e .centre .population) people;
+      «short_below» = e .«short_below»;
+      «covers_whole_grid» = endCovers globe e;
+      «predicate_slack_persons» = slack;
+      ambiguity = e .ambiguity;
+      «tolerance_persons» = whole 0;
+      stats = e .stats;
+    }

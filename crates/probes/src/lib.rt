@@ -1,18 +1,17 @@
-// The probes of a smallest-radius call, from the first radius until the bracket is closed, and the fields of its answer.
+// A probe of a smallest radius, reused or searched, and what it adds to the state of a run; the fields of the answer.
 
-mod ending;
 mod probe;
-mod runs;
 mod state;
 
 use candidates::Candidate;
-use climb::Bracket;
-pub use ending::conclude;
 use grid::RadiusKm;
 use ledger::Ledger;
 use levels::SearchStats;
-pub use runs::run;
+pub use probe::entry_of;
+pub use probe::evaluated;
+pub use probe::reused;
 use share::Target;
+pub use state::begun;
 
 // The most radii that a run probes, and so the places that a call asks for in its ledger.
 pub const MOST_RADII: usize = 28;
@@ -64,9 +63,18 @@ pub struct RunState {
     pub stats: SmallestStats,
 }
 
-// Where a run has ended.
+// Where a run has ended: the lowest radius that reached, or the ceiling where all fell short, and what its answer is made of.
 pub struct RunEnd {
-    pub bracket: Bracket,
-    pub state: RunState,
+    pub radius_km: RadiusKm,
+    pub reached: bool,
+    pub centre: Candidate,
+    pub short_below: ShortBelow,
+    pub ambiguity: Ambiguity,
+    pub stats: SmallestStats,
+}
+
+// A run's end beside the ledger after it.
+pub struct Ran {
+    pub end: RunEnd,
     pub ledger: Ledger,
 }

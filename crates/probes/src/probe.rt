@@ -10,15 +10,15 @@ ghost use Rattle.probes.specs.State.{reusedMore, evaluatedMore, noted};
 ghost use Rattle.probes.specs.Requires.{CanNote, CanEvaluate};
 
 // A probe that an entry of the ledger answers.
-pub(crate) fn reused(
+pub fn reused(
     persons: f64,
     slack: f64,
     state: RunState,
-    km: u32,
+    km: RadiusKm,
     centre: Candidate,
 ) -> RunState
     requires { ⌜ CanNote state centre ⌝ }
-    ensures { λ r. ⌜ r ≡ noted persons slack state km centre (reusedMore (state .stats)) ⌝ }
+    ensures { λ r. ⌜ r ≡ noted persons slack state (km .0) centre (reusedMore (state .stats)) ⌝ }
 {
     let before = state.stats;
     let stats = crate::state::reused_more(before);
@@ -26,15 +26,15 @@ pub(crate) fn reused(
 }
 
 // A probe that searched.
-pub(crate) fn evaluated(
+pub fn evaluated(
     persons: f64,
     slack: f64,
     state: RunState,
-    km: u32,
+    km: RadiusKm,
     found: MostPopulous,
 ) -> RunState
     requires { ⌜ CanEvaluate state found ⌝ }
-    ensures { λ r. ⌜ r ≡ noted persons slack state km (found .centre) (evaluatedMore (state .stats) (found .tally .stats)) ⌝ }
+    ensures { λ r. ⌜ r ≡ noted persons slack state (km .0) (found .centre) (evaluatedMore (state .stats) (found .tally .stats)) ⌝ }
 {
     let centre = found.centre;
     let tally = found.tally;
@@ -45,12 +45,9 @@ pub(crate) fn evaluated(
 }
 
 // The entry by which the ledger keeps a search.
-pub(crate) fn entry_of(km: u32, found: MostPopulous) -> Entry
-    ensures { λ r. ⌜ r ≡ entry km (found .centre) ⌝ }
+pub fn entry_of(km: RadiusKm, found: MostPopulous) -> Entry
+    ensures { λ r. ⌜ r ≡ entry (km .0) (found .centre) ⌝ }
 {
     let centre = found.centre;
-    Entry {
-        km: RadiusKm(km),
-        centre,
-    }
+    Entry { km, centre }
 }

@@ -18,28 +18,28 @@ ghost use Rattle.probes.specs.Smallest.{widened};
 ghost use Rattle.probes.specs.State.{runBegun, reusedMore, evaluatedMore, shortAfter, ambiguityAfter, noted, radiiOf};
 
 // The lesser of two kilometres.
-fn lesser(a: u32, b: u32) -> u32
-    ensures { λ r. ⌜ r ≡ min a b ⌝ }
+fn lesser(a: RadiusKm, b: RadiusKm) -> RadiusKm
+    ensures { λ r. ⌜ r .0 ≡ min (a .0) (b .0) ⌝ }
 {
-    if a < b { a } else { b }
+    if a.0 < b.0 { a } else { b }
 }
 
 // The greater of two kilometres.
-fn greater(a: u32, b: u32) -> u32
-    ensures { λ r. ⌜ r ≡ max a b ⌝ }
+fn greater(a: RadiusKm, b: RadiusKm) -> RadiusKm
+    ensures { λ r. ⌜ r .0 ≡ max (a .0) (b .0) ⌝ }
 {
-    if a < b { b } else { a }
+    if a.0 < b.0 { b } else { a }
 }
 
 // One radius more that the slack cannot separate from the target.
-fn widened(ambiguity: Ambiguity, km: u32) -> Ambiguity
+fn widened(ambiguity: Ambiguity, km: RadiusKm) -> Ambiguity
     requires { ⌜ radiiOf ambiguity + 1 < 2 ^ 32 ⌝ }
-    ensures { λ r. ⌜ r ≡ widened ambiguity km ⌝ }
+    ensures { λ r. ⌜ r ≡ widened ambiguity (km .0) ⌝ }
 {
     match ambiguity {
         Ambiguity::Absent => Ambiguity::Radii {
-            lowest_km: RadiusKm(km),
-            highest_km: RadiusKm(km),
+            lowest_km: km,
+            highest_km: km,
             radii: 1,
         },
         Ambiguity::Radii {
@@ -47,11 +47,11 @@ fn widened(ambiguity: Ambiguity, km: u32) -> Ambiguity
             highest_km,
             radii,
         } => {
-            let low = lesser(lowest_km.0, km);
-            let high = greater(highest_km.0, km);
+            let low = lesser(lowest_km, km);
+            let high = greater(highest_km, km);
             Ambiguity::Radii {
-                lowest_km: RadiusKm(low),
-                highest_km: RadiusKm(high),
+                lowest_km: low,
+                highest_km: high,
                 radii: radii + 1,
             }
         }
@@ -59,9 +59,9 @@ fn widened(ambiguity: Ambiguity, km: u32) -> Ambiguity
 }
 
 // A probe within the slack widens the ambiguity, whether it reached or fell short.
-fn ambiguity_after(within: bool, ambiguity: Ambiguity, km: u32) -> Ambiguity
+fn ambiguity_after(within: bool, ambiguity: Ambiguity, km: RadiusKm) -> Ambiguity
     requires { ⌜ radiiOf ambiguity + 1 < 2 ^ 32 ⌝ }
-    ensures { λ r. ⌜ r ≡ ambiguityAfter within ambiguity km ⌝ }
+    ensures { λ r. ⌜ r ≡ ambiguityAfter within ambiguity (km .0) ⌝ }
 {
     if within {
         return widened(ambiguity, km);
@@ -71,16 +71,13 @@ fn ambiguity_after(within: bool, ambiguity: Ambiguity, km: u32) -> Ambiguity
 
 // A probe that fell short is the witness until another does. The latest stands one kilometre below the lowest radius that is left, so that at
 // the end it is one below the answer.
-fn short_after(reached: bool, short: ShortBelow, km: u32, population: u64) -> ShortBelow
-    ensures { λ r. ⌜ r ≡ shortAfter reached short km population ⌝ }
+fn short_after(reached: bool, short: ShortBelow, km: RadiusKm, population: u64) -> ShortBelow
+    ensures { λ r. ⌜ r ≡ shortAfter reached short (km .0) population ⌝ }
 {
     if reached {
         return short;
     }
-    ShortBelow::Witness {
-        km: RadiusKm(km),
-        population,
-    }
+    ShortBelow::Witness { km, population }
 }
 
 // What the lowest radius that reached has found: each that reaches is lower than those before it.
@@ -122,7 +119,7 @@ pub(crate) fn evaluated_more(stats: SmallestStats, search: SearchStats) -> Small
 }
 
 // Before the first probe. Until a radius reaches, what is found is cell (0, 0) with the total: the answer where all fall short.
-pub(crate) fn begun(total: u64) -> RunState
+pub fn begun(total: u64) -> RunState
     ensures { λ r. ⌜ r ≡ runBegun total ⌝ }
 {
     let searched = SearchStats::of(0, 0, 0, 0, 0);
@@ -150,13 +147,13 @@ pub(crate) fn noted(
     persons: f64,
     slack: f64,
     state: RunState,
-    km: u32,
+    km: RadiusKm,
     centre: Candidate,
     stats: SmallestStats,
 ) -> RunState
     requires { ⌜ centre .population ≤ 2 ^ 53 ⌝ }
     requires { ⌜ radiiOf (state .ambiguity) + 1 < 2 ^ 32 ⌝ }
-    ensures { λ r. ⌜ r ≡ noted persons slack state km centre stats ⌝ }
+    ensures { λ r. ⌜ r ≡ noted persons slack state (km .0) centre stats ⌝ }
 {
     let old_found = state.found;
     let old_short = state.short;

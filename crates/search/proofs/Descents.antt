@@ -10,7 +10,8 @@ use Rattle.lists.specs.Front.{onto}
 use Rattle.lists.specs.Lists.{each, sort}
 use Rattle.lists.proofs.Folds.{length-each}
 use Rattle.lists.proofs.Fronts.{length-onto}
-use Rattle.lists.proofs.Elements.{AllOf, all-map, total}
+use Rattle.lists.specs.Elements.{AllOf, totalOf}
+use Rattle.lists.proofs.Elements.{all-map}
 use Rattle.lists.proofs.Sorts.{all-sort, total-sort}
 use Rattle.grid.specs.declared.Grid.{Grid}
 use Rattle.grid.specs.Grid.{cells}
@@ -19,7 +20,8 @@ use Rattle.grid.proofs.Sizes.{Sizes, grid-sizes}
 use Rattle.blocks.specs.declared.Block.{Block}
 use Rattle.blocks.specs.Block.{area, byProbe, tile, Rectangle}
 use Rattle.blocks.specs.State.{wordOf, blocksOf, wordsByProbe, Tiled}
-use Rattle.blocks.specs.Requires.{Small, CanTake}
+use Rattle.blocks.specs.Requires.{Small}
+use Rattle.probe_order.specs.Requires.{CanTake}
 use Rattle.blocks.proofs.Tiles.{length-area, tile-rectangle}
 use Rattle.blocks.proofs.TileWords.{tile-room}
 use Rattle.blocks.proofs.Words.{rectangle-small, blocks-onto, blocks-written, blocks-sorted}
@@ -83,7 +85,7 @@ few-light : (t : Tally) → Few t → weight t ≤ 30000000
 unfolding weight statsWeight
 few-light t f = omega (arith, f .levels, f .examined, f .pruned, f .evaluated, f .kernels, f .cells-ended)
 
-level-light : (m : Map) (km : Float) (best : Held) (bs : List Block) → AllOf (Rectangle (m .globe .grid)) bs → total area bs ≤ mostCells
+level-light : (m : Map) (km : Float) (best : Held) (bs : List Block) → AllOf (Rectangle (m .globe .grid)) bs → totalOf area bs ≤ mostCells
     → weight (level m km best bs .tally) ≤ 100000
 unfolding weight statsWeight
 level-light m km best bs rs h =
@@ -148,7 +150,7 @@ module _ (gr : Grid) (angles cosines : List Float) (sums : List ℕ) (km : Float
       all : AllOf (Rectangle gr) (d .left)
       all = all-map (λ b x. x .rectangle) (d .counted .small)
 
-      area-few : total area (d .left) ≤ cells gr
+      area-few : totalOf area (d .left) ≤ cells gr
       area-few = omega (arith, d .counted .cells-all)
 
       pub descend-words : live ≤ length current

@@ -8,7 +8,8 @@ use native.Mathlib.Nat.{zero-mul}
 use lib.Dec.{T}
 use lib.Ieee.{Float}
 use lib.ListN.{length}
-use Rattle.lists.proofs.Elements.{AllOf, also, AnyOf, all-map, total}
+use Rattle.lists.specs.Elements.{AllOf, also, totalOf}
+use Rattle.lists.proofs.Elements.{AnyOf, all-map}
 use Rattle.grid.specs.declared.Cell.{Cell}
 use Rattle.grid.specs.declared.Grid.{Grid}
 use Rattle.grid.specs.Grid.{cell, onGrid, before, cells}
@@ -57,7 +58,7 @@ levels-rule m km I step fuelled (suc n) s (b ∷ bs) i =
 -- before a level: width + height levels are enough, the cells add up, and every count is within the levels times the cells
 pub record Counted (g : Grid) (n : ℕ) (t : Tally) (bs : List Block) : Type 0 where
   pub small : AllOf (Splits g n) bs
-  pub cells-all : ended t + total area bs ≡ cells g
+  pub cells-all : ended t + totalOf area bs ≡ cells g
   pub levels-all : t .stats .levels + n ≡ g .width + g .height
   pub either : decided t ≡ t .stats .«blocks_examined»
   pub examined : t .stats .«blocks_examined» ≤ t .stats .levels * cells g
@@ -123,7 +124,7 @@ pub record Tallied (g : Grid) (t : Tally) : Type 0 where
   pub kernels : t .stats .«kernels_built» ≤ t .stats .levels * (2 * cells g + 8)
 
 tallied-end : (g : Grid) (k : ℕ) (t : Tally) → Counted g k t [] → Tallied g t
-unfolding total
+unfolding totalOf
 tallied-end g k t i =
     record {
       cells-all = omega (arith, i .cells-all);

@@ -10,7 +10,6 @@ use Rattle.grid.specs.Answer.{open-answers}
 use Rattle.grid.specs.Questions.{open-questions}
 use Rattle.sums.specs.Sums.{open-sums}
 use Rattle.kernel.specs.Circle.{open-circles}
-use Rattle.kernel.specs.Call.{open-circle-calls}
 use Rattle.blocks.specs.Block.{open-blocks}
 use Rattle.bounds.specs.Bound.{open-bounds}
 use Rattle.bounds.specs.Spacing.{open-spacings}
@@ -22,7 +21,7 @@ use Rattle.search.specs.Ring.{RingSearches, open-rings}
 
 -- all that a search of the ring is made of, for facts that are computed
 unfoldable pub ring-open : Unit {0}
-unfolding open-floats open-counted open-lists open-fronts open-grids open-maps open-answers open-questions open-sums open-circles open-circle-calls open-blocks open-bounds open-spacings open-candidates open-levels open-searches open-search-calls open-rings
+unfolding open-floats open-counted open-lists open-fronts open-grids open-maps open-answers open-questions open-sums open-circles open-blocks open-bounds open-spacings open-candidates open-levels open-searches open-search-calls open-rings
 ring-open = tt
 
 pub ring-searches : RingSearches

@@ -104,6 +104,6 @@ module _ (m : Map) (lent : Buffers) (passed : Passed m) (fit : buffersFit (m .gl
           };
         }
 
-    -- the map by its sums is the map
-    pub searched-map : (spacing : Spacing) (km : ℕ) → search (globeMap (m .globe) last) spacing km ≡ search m spacing km
-    searched-map spacing km = ap (λ (x : Map). search x spacing km) (globe-map m (lent .sums) last to-fill sums-filled)
+    -- the map by its sums is the map, at the radius that the questions left
+    pub searched-map : (spacing : Spacing) (km r : ℕ) → km ≡ r → search (globeMap (m .globe) last) spacing r ≡ search m spacing km
+    searched-map spacing km r same = rw same (ap (λ (x : Map). search x spacing r) (globe-map m (lent .sums) last to-fill sums-filled))

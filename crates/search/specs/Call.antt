@@ -10,7 +10,7 @@ use Rattle.grid.specs.Grid.{cells}
 use Rattle.grid.specs.Answer.{Question, question, firstNo, Answer, answered, refused, decide, after, shown}
 use Rattle.grid.specs.Questions.{mapQuestions}
 use Rattle.sums.specs.Sums.{sumsFit, filledSums}
-use Rattle.kernel.specs.Call.{radiusInRange}
+use Rattle.grid.specs.Questions.{radiusInRange}
 use Rattle.bounds.specs.declared.Spacing.{Spacing}
 use Rattle.bounds.specs.Spacing.{spacingGiven}
 use Rattle.search.specs.declared.MostPopulous.{MostPopulous}

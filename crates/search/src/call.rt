@@ -6,14 +6,17 @@ use crate::descend;
 use bounds::Spacing;
 use candidates::Candidate;
 use candidates::Held;
+use grid::Asked;
 use grid::Cell;
 use grid::Col;
 use grid::Grid;
+use grid::RadiusFound;
 use grid::RadiusKm;
 use grid::Row;
 ghost use mathlib.Core.Path.{_≡_};
 ghost use Rattle.grid.specs.Answer.{firstNo};
 ghost use Rattle.grid.specs.Map.{lentMap};
+ghost use Rattle.grid.specs.Questions.{asked};
 ghost use Rattle.candidates.specs.Candidate.{northWest};
 ghost use Rattle.search.specs.Search.{heldOr, mostPopulous, search};
 ghost use Rattle.search.specs.Call.{buffers, buffersFit, searchQuestions, searchCall, searchGave};
@@ -37,15 +40,15 @@ fn held_or_north_west(held: Held) -> Candidate
 }
 
 // What the levels found, with its radius: the cell (0, 0) with nobody where nothing is held.
-fn answer_of(found: SearchResult, km: u32) -> MostPopulous
-    ensures { λ r. ⌜ r ≡ mostPopulous km (heldOr (northWest 0) (found .held)) (found .tally) ⌝ }
+fn answer_of(found: SearchResult, km: RadiusKm) -> MostPopulous
+    ensures { λ r. ⌜ r ≡ mostPopulous (km .0) (heldOr (northWest 0) (found .held)) (found .tally) ⌝ }
 {
     let held = found.held;
     let tally = found.tally;
     let centre = held_or_north_west(held);
     MostPopulous {
         centre,
-        radius: RadiusKm(km),
+        radius: km,
         tolerance_persons: 0.0,
         tally,
     }
@@ -59,17 +62,17 @@ pub fn search_at(
     sums: &[u64],
     current: &mut [u64],
     following: &mut [u64],
-    km: u32,
+    km: RadiusKm,
     spacing: Spacing,
 ) -> MostPopulous
     requires { ⌜ CanSearch grid (now angles) (now cosines) (now sums) (now current) (now following) ⌝ }
-    ensures { λ r. ⌜ r ≡ search (summedMap grid (now (angles .entry)) (now (cosines .entry)) (now (sums .entry))) spacing km ⌝ }
+    ensures { λ r. ⌜ r ≡ search (summedMap grid (now (angles .entry)) (now (cosines .entry)) (now (sums .entry))) spacing (km .0) ⌝ }
 {
-    if km == 0 {
+    if km.0 == 0 {
         let none = descend::nothing();
         return answer_of(none, km);
     }
-    let radius = km as f64;
+    let radius = km.0 as f64;
     let side = bounds::spacing_of(grid, radius, spacing);
     let found = descend::searched(
         grid,
@@ -98,8 +101,8 @@ pub fn buffers_fit(grid: Grid, sums: &[u64], current: &[u64], following: &[u64])
     cells <= following.len() as u64
 }
 
-// The number of the first question of the call that is answered no, or 0.
-fn search_refusal(
+// What the call's questions leave: its radius, or the number of the first that is answered no. Question 8 is the radius's constructor.
+fn search_asked(
     grid: Grid,
     counts: &[u32],
     angles: &[f64],
@@ -109,25 +112,27 @@ fn search_refusal(
     sums: &[u64],
     current: &[u64],
     following: &[u64],
-) -> u32
-    ensures { λ r. ⌜ r ≡ firstNo (searchQuestions
+) -> Asked
+    ensures { λ r. ⌜ r ≡ asked (firstNo (searchQuestions
         (lentMap grid (now (counts .entry)) (now (angles .entry)) (now (cosines .entry))) spacing km
-        (buffers (now (sums .entry)) (now (current .entry)) (now (following .entry)))) ⌝ }
+        (buffers (now (sums .entry)) (now (current .entry)) (now (following .entry))))) km ⌝ }
 {
-    let refusal = grid::map_refusal(grid, counts, angles, cosines);
+    let refusal = sheet::map_refusal(grid, counts, angles, cosines);
     if refusal != 0 {
-        return refusal;
+        return Asked::Refused(refusal);
     }
     if !buffers_fit(grid, sums, current, following) {
-        return 7;
+        return Asked::Refused(7);
     }
-    if !kernel::radius_in_range(grid, km) {
-        return 8;
+    match RadiusKm::new(grid, km) {
+        RadiusFound::Beyond => Asked::Refused(8),
+        RadiusFound::Within(radius) => {
+            if !bounds::spacing_given(spacing) {
+                return Asked::Refused(10);
+            }
+            Asked::Radius(radius)
+        }
     }
-    if !bounds::spacing_given(spacing) {
-        return 10;
-    }
-    0
 }
 
 // The search call: its questions first, in their order; a refusal changes nothing that was lent. Otherwise the sums are filled, also at
@@ -147,7 +152,7 @@ pub fn most_populous(
         (lentMap grid (now (counts .entry)) (now (angles .entry)) (now (cosines .entry))) spacing km
         (buffers (now (sums .entry)) (now (current .entry)) (now (following .entry))) ⌝ }
 {
-    let refusal = search_refusal(
+    match search_asked(
         grid,
         counts,
         angles,
@@ -157,11 +162,21 @@ pub fn most_populous(
         sums,
         current,
         following,
-    );
-    if refusal != 0 {
-        return SearchAnswer::Refused(refusal);
+    ) {
+        Asked::Refused(number) => SearchAnswer::Refused(number),
+        Asked::Radius(radius) => {
+            sums::fill_sums(grid, counts, sums);
+            let found = search_at(
+                grid,
+                angles,
+                cosines,
+                sums,
+                current,
+                following,
+                radius,
+                spacing,
+            );
+            SearchAnswer::Found(found)
+        }
     }
-    sums::fill_sums(grid, counts, sums);
-    let found = search_at(grid, angles, cosines, sums, current, following, km, spacing);
-    SearchAnswer::Found(found)
 }

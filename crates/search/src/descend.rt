@@ -31,7 +31,7 @@ fn first_level(grid: Grid, spacing: u32, current: &mut [u64], following: &mut [u
     ensures { λ r. ⌜ FirstLevel grid spacing (now (current .exit)) r ⌝ }
 {
     let n = blocks::tile(grid, spacing, following);
-    blocks::insert_from(following, n, current);
+    probe_order::insert_from(following, n, current);
     n
 }
 
@@ -67,7 +67,7 @@ pub(crate) fn searched(
     let mut found = nothing();
     while 0 < live {
         let best = found.held;
-        let level = levels::level(
+        let level = sweep::level(
             grid,
             angles,
             cosines,
@@ -80,7 +80,7 @@ pub(crate) fn searched(
         );
         found = with_level(found, level);
         live = level.live;
-        blocks::insert_from(following, live, current);
+        probe_order::insert_from(following, live, current);
     }
     found
 }

@@ -1,2 +1,3 @@
 pub mod Ring
 pub mod SmallestCalls
+pub mod FewRadii

@@ -21,15 +21,16 @@ use Rattle.search.proofs.SearchCalls as searching
 use Rattle.search.proofs.SearchCalls.{to-search}
 use Rattle.ledger.specs.declared.Ledger.{Ledger}
 use Rattle.ledger.specs.Ledger.{placesFree}
+use Rattle.ledger.specs.Requires.{InBounds}
 use Rattle.share.specs.declared.Target.{Target}
 use Rattle.share.specs.Target.{predicateSlackPersons, targetOf}
-use Rattle.probes.specs.declared.RunEnd.{RunEnd}
+use Rattle.probes.specs.declared.Ran.{Ran}
 use Rattle.probes.specs.declared.Smallest.{Smallest}
 use Rattle.probes.specs.Probes.{mostRadii}
 use Rattle.probes.specs.Smallest.{Settled, smallest}
-use Rattle.probes.specs.State.{answerBy, settledBy, Ran}
+use Rattle.probes.specs.State.{ran, answerBy}
 use Rattle.probes.specs.Requires.{CanRun, CanConclude}
-use Rattle.probes.proofs.Ends.{answer-sheet}
+use Rattle.run.proofs.Ends.{answer-sheet, settledBy, ran-settles}
 use Rattle.probes.proofs.Probes.{people-exact}
 use Rattle.smallest.specs.declared.SmallestResult.{SmallestResult}
 use Rattle.smallest.specs.declared.SmallestAnswer.the-variants.{Found}
@@ -83,26 +84,23 @@ module _ {g : Grid} {angles cosines : List Float} {sums current following : List
         room = can .room;
       }
 
-  module _ {e : RunEnd} (ran : Ran (summedMap g angles cosines sums) spacing (t .share) l e) where
-    pub can-conclude : CanConclude g angles people (e .state)
-    can-conclude =
+  module _ {r : Ran} (ends : r ≡ ran (summedMap g angles cosines sums) spacing (t .share) l) where
+    pub can-conclude : InBounds g (r .end .centre) → CanConclude g angles people (r .end)
+    can-conclude b =
         let ready = can .search .ready in
         record {
           sheet = record { cosines = cosines; sizes = ready .sizes; complete = ready .complete; order = ready .order };
-          found = ran .found;
+          centre = b;
           exact = rw all-people (people-exact g angles cosines sums ready);
         }
 
-    pub is-settled : {a : Smallest} → a ≡ answerBy (sheetOf g angles) t slack people (e .bracket) (e .state)
-        → IsSettled (smallest (summedMap g angles cosines sums) spacing share l) (record { answer = Found a; ledger = e .ledger })
-    unfolding settledBy
+    pub is-settled : {a : Smallest} → a ≡ answerBy (sheetOf g angles) t slack people (r .end)
+        → IsSettled (smallest (summedMap g angles cosines sums) spacing share l) (record { answer = Found a; ledger = r .ledger })
     is-settled {a} f =
         let m = summedMap g angles cosines sums in
-        let same : settledBy m share (e .bracket) (e .state) (e .ledger) ≡ smallest m spacing share l = rw same-share at (ran .same) in
+        let same : settledBy m share r ≡ smallest m spacing share l = rw (ends, same-share) (ran-settles m spacing share l) in
         let width : slack ≡ predicateSlackPersons g (whole (total m)) = k ∙ ap (λ (x : Target). predicateSlackPersons g (x .total)) the-target in
-        let whole-answer : a ≡ settledBy m share (e .bracket) (e .state) (e .ledger) .answer
-        = f ∙ answer-sheet g angles cosines t slack people (e .bracket) (e .state) ∙ rw (the-target, width, all-people)
-        in
+        let whole-answer : a ≡ settledBy m share r .answer = f ∙ answer-sheet g angles cosines t slack people (r .end) ∙ rw (the-target, width, all-people) in
         record { answer = rw (← same) (ap Found whole-answer); ledger = ap (λ (x : Settled). x .ledger) same }
 
 -- ---- what an accepted call knows at each of its steps

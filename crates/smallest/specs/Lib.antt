@@ -2,3 +2,4 @@ pub mod Call
 pub mod Requires
 pub mod State
 pub mod Ring
+pub mod FewRadii

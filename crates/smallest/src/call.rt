@@ -32,10 +32,10 @@ fn settle(
         (smallest (summedMap grid (now (angles .entry)) (now (cosines .entry)) (now (sums .entry))) spacing share ledger)
         r ⌝ }
 {
-    let total = sums::total(grid, sums);
+    let total = table::whole_at(grid, sums);
     let target = share::target_of(share, total);
     let slack = share::predicate_slack_persons(grid, target.total);
-    let end = probes::run(
+    let ran = run::run(
         grid,
         angles,
         cosines,
@@ -48,10 +48,9 @@ fn settle(
         total,
         ledger,
     );
-    let bracket = end.bracket;
-    let state = end.state;
-    let found = probes::conclude(grid, angles, target, slack, total, bracket, state);
-    let kept = end.ledger;
+    let end = ran.end;
+    let found = run::conclude(grid, angles, target, slack, total, end);
+    let kept = ran.ledger;
     SmallestResult {
         answer: SmallestAnswer::Found(found),
         ledger: kept,
@@ -95,7 +94,7 @@ fn smallest_refusal(
         spacing share ledger
         (buffers (now (sums .entry)) (now (current .entry)) (now (following .entry)))) ⌝ }
 {
-    let refusal = grid::map_refusal(grid, counts, angles, cosines);
+    let refusal = sheet::map_refusal(grid, counts, angles, cosines);
     if refusal != 0 {
         return refusal;
     }

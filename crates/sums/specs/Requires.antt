@@ -9,6 +9,7 @@ use Rattle.grid.specs.declared.Grid.{Grid}
 use Rattle.grid.specs.Grid.{mostColumns, mostRows}
 use Rattle.sums.specs.declared.RowBand.{RowBand}
 use Rattle.sums.specs.declared.ColSpan.{ColSpan}
+use Rattle.sums.specs.declared.Rows.{Rows}
 use Rattle.sums.specs.Sums.{sumsWords, sumsWord, filledSums, total}
 use Rattle.sums.specs.State.{countsMap, wordsThrough, tableMap}
 
@@ -43,6 +44,26 @@ pub record Summed (g : Grid) (sums : List ℕ) : Type 0 where
 pub record AtCorner (g : Grid) (r c : ℕ) : Type 0 where
   pub row : r ≤ g .height
   pub col : c ≤ g .width
+
+-- rows in order and the columns west of one, all on the grid
+pub record StripOnTable (g : Grid) (rows : Rows) (c : ℕ) : Type 0 where
+  pub ordered : rows .north ≤ rows .end
+  pub south : rows .end ≤ g .height
+  pub col : c ≤ g .width
+
+-- such rows and the columns from a west one to before an end
+pub record InlandOnTable (g : Grid) (rows : Rows) (w e : ℕ) : Type 0 where
+  pub ordered : rows .north ≤ rows .end
+  pub south : rows .end ≤ g .height
+  pub west : w ≤ e
+  pub end : e ≤ g .width
+
+-- such rows and two pieces of their columns, from a west one to the last and from the first to before an end
+pub record AcrossOnTable (g : Grid) (rows : Rows) (w e : ℕ) : Type 0 where
+  pub ordered : rows .north ≤ rows .end
+  pub south : rows .end ≤ g .height
+  pub west : w ≤ g .width
+  pub end : e ≤ g .width
 
 -- a band of rows in order and a span of columns, all on the grid
 pub record OnTable (g : Grid) (band : RowBand) (span : ColSpan) : Type 0 where

@@ -1,14 +1,12 @@
 // Prefix sums of the counts in a lent buffer, and the people of bands of rows and spans of columns by four words or six.
 ghost use mathlib.Core.Path.{_≡_};
 ghost use Prim.Native.Nat.{_+_, _*_, _≤_};
-ghost use lib.Dec.{leb};
 ghost use lib.ListN.{length};
 ghost use Rattle.lists.specs.Front.{over};
-ghost use Rattle.grid.specs.Grid.{closing};
-ghost use Rattle.sums.specs.Sums.{corner as cornerOf, sumsWord, sumsFit, filledSums, total as totalOf};
-ghost use Rattle.sums.specs.Sums.{rectanglePopulation, bandPopulation, bandSpan};
+ghost use Rattle.sums.specs.Sums.{corner as cornerOf, sumsWord, sumsFit, filledSums};
+ghost use Rattle.sums.specs.Sums.{rectanglePopulation, bandPopulation};
 ghost use Rattle.sums.specs.State.{countsMap, wordsThrough, tableMap};
-ghost use Rattle.sums.specs.Requires.{Fillable, RowReady, Summed, AtCorner, OnTable, InTable};
+ghost use Rattle.sums.specs.Requires.{Fillable, RowReady, Summed, AtCorner, OnTable, StripOnTable, InlandOnTable, AcrossOnTable};
 use grid::Col;
 use grid::Grid;
 use grid::Row;
@@ -20,9 +18,9 @@ pub struct RowBand {
 }
 
 // The rows from north to before end, by which corners are read.
-struct Rows {
-    north: u32,
-    end: u32,
+pub struct Rows {
+    pub north: u32,
+    pub end: u32,
 }
 
 // The columns from west eastward to east, both included; across the seam where west is the greater.
@@ -106,18 +104,10 @@ pub fn corner(grid: Grid, sums: &[u64], row: u32, col: u32) -> u64
     sums[row as usize * stride + col as usize]
 }
 
-// The people of all cells: the last corner.
-pub fn total(grid: Grid, sums: &[u64]) -> u64
-    requires { ⌜ Summed grid (now sums) ⌝ }
-    ensures { λ r. ⌜ r ≡ totalOf (tableMap grid (now (sums .entry))) ⌝ }
-{
-    corner(grid, sums, grid.height, grid.width)
-}
-
 // The people of some rows west of a column: two words.
-fn strip(grid: Grid, sums: &[u64], rows: Rows, col: u32) -> u64
+pub fn strip(grid: Grid, sums: &[u64], rows: Rows, col: u32) -> u64
     requires { ⌜ Summed grid (now sums) ⌝ }
-    requires { ⌜ (rows .north ≤ rows .end) × (rows .end ≤ grid .height) × (col ≤ grid .width) ⌝ }
+    requires { ⌜ StripOnTable grid rows col ⌝ }
     ensures { λ r. ⌜ r ≡ rectanglePopulation (tableMap grid (now (sums .entry))) rows 0 col ⌝ }
 {
     let below = corner(grid, sums, rows.end, col);
@@ -126,9 +116,9 @@ fn strip(grid: Grid, sums: &[u64], rows: Rows, col: u32) -> u64
 }
 
 // The people of some rows from a column to before another: four words.
-fn inland(grid: Grid, sums: &[u64], rows: Rows, west: u32, end: u32) -> u64
+pub fn inland(grid: Grid, sums: &[u64], rows: Rows, west: u32, end: u32) -> u64
     requires { ⌜ Summed grid (now sums) ⌝ }
-    requires { ⌜ (rows .north ≤ rows .end) × (rows .end ≤ grid .height) × (west ≤ end) × (end ≤ grid .width) ⌝ }
+    requires { ⌜ InlandOnTable grid rows west end ⌝ }
     ensures { λ r. ⌜ r ≡ rectanglePopulation (tableMap grid (now (sums .entry))) rows west end ⌝ }
 {
     strip(grid, sums, rows, end) - strip(grid, sums, rows, west)
@@ -136,9 +126,9 @@ fn inland(grid: Grid, sums: &[u64], rows: Rows, west: u32, end: u32) -> u64
 
 // The same where the seam lies between: six words. A row's words begin at column 0 and do not go round, so such a span is two pieces, the
 // columns from west to the last and those from the first to before end, which have no column in common.
-fn across(grid: Grid, sums: &[u64], rows: Rows, west: u32, end: u32) -> u64
+pub fn across(grid: Grid, sums: &[u64], rows: Rows, west: u32, end: u32) -> u64
     requires { ⌜ Summed grid (now sums) ⌝ }
-    requires { ⌜ (rows .north ≤ rows .end) × (rows .end ≤ grid .height) × (west ≤ grid .width) × (end ≤ grid .width) ⌝ }
+    requires { ⌜ AcrossOnTable grid rows west end ⌝ }
     ensures { λ r. let m = tableMap grid (now (sums .entry)) in
         ⌜ r ≡ rectanglePopulation m rows west (grid .width) + rectanglePopulation m rows 0 end ⌝ }
 {
@@ -161,37 +151,4 @@ pub fn population(grid: Grid, sums: &[u64], band: RowBand, span: ColSpan) -> u64
         return inland(grid, sums, rows, west, end);
     }
     across(grid, sums, rows, west, end)
-}
-
-// Half the width and more: every column.
-fn full_turn(grid: Grid, half: u32) -> bool
-    ensures { λ r. ⌜ r ≡ leb (closing grid) half ⌝ }
-{
-    grid.width / 2 <= half
-}
-
-// The people of a band's columns at most `half` from the centre column around the ring. The full turn is counted once.
-// Each case reads its own words: ends chosen first would be tested for the seam again.
-pub fn band_span(grid: Grid, sums: &[u64], band: RowBand, centre: Col, half: u32) -> u64
-    requires { ⌜ Summed grid (now sums) ⌝ }
-    requires { ⌜ InTable grid band centre ⌝ }
-    ensures { λ r. ⌜ r ≡ bandSpan (tableMap grid (now (sums .entry))) band centre half ⌝ }
-{
-    let rows = Rows {
-        north: band.north.0,
-        end: band.south.0 + 1,
-    };
-    let width = grid.width;
-    if full_turn(grid, half) {
-        return strip(grid, sums, rows, width);
-    }
-    let end = centre.0 + half + 1;
-    if centre.0 < half {
-        return across(grid, sums, rows, centre.0 + width - half, end);
-    }
-    let west = centre.0 - half;
-    if width < end {
-        return across(grid, sums, rows, west, end - width);
-    }
-    inland(grid, sums, rows, west, end)
 }

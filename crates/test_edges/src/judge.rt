@@ -1,7 +1,7 @@
 // The judge of a sheet, fed the angles that are lent: one by one, or in pieces.
 use crate::print;
 use grid::Grid;
-use grid::SheetJudge;
+use sheet::SheetJudge;
 use test_cases::Map;
 ghost use Prim.Native.Nat.{_<_};
 

@@ -8,7 +8,7 @@ use grid::Grid;
 use grid::RadiusKm;
 use grid::Row;
 use ledger::Entry;
-use ledger::PutAnswer;
+use put::PutAnswer;
 use test_cases::Map;
 
 // What is printed where there is no room for a ledger.
@@ -41,7 +41,7 @@ fn by_lending(grid: Grid, line: &[u64], before: &[u64], after: &mut [u64]) -> u3
     if after.len() != test_cases::LEDGER_WORDS {
         return UNPLAYED;
     }
-    let result = ledger::put_by_lending(grid, words::ledger_of(before), entry);
+    let result = put::put_by_lending(grid, words::ledger_of(before), entry);
     let answer = result.answer;
     words::write_ledger(result.ledger, after);
     match answer {

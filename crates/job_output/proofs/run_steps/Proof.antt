@@ -22,7 +22,7 @@ start-requires c κs = search needs
 loop-holds : tie.Need-loop-holds Inv-loop μ-loop
 loop-holds c =
     let start = c .before .before .before in
-    (start .pre, search needs, under-none (start .args .bytes .now) (start .args .out .now) (stateOf (c .start .result)) (c .start .ensures))
+    (start .pre, search needs, under-none (start .args .bytes .now) (start .args .out .now) (c .start .result) (c .start .ensures))
 
 step-requires : tie.Need-step-requires Inv-loop μ-loop
 step-requires c κs = search needs
@@ -43,7 +43,7 @@ returns c =
     let turn = made .before .before in
     let start = turn .before .before .before .before in
     let loop = turn .loop in
-    under-ended (start .args .bytes .now) (start .args .out .now) (loop .out) (stateOf (loop .state)) (loop .at) (loop .count) (loop .i)
+    under-ended (start .args .bytes .now) (start .args .out .now) (loop .out) (loop .state) (loop .at) (loop .count) (loop .i)
     (loop .inv .2) (omega arith) (made .step .result) (made .step .ensures) (printed .add-line .result) _ (printed .add-line .ensures .0) (c .if1 .taken)
 
 loop-less : tie.Need-loop-less Inv-loop μ-loop
@@ -58,7 +58,7 @@ loop-again c =
     let loop = turn .loop in (
       loop .inv .0,
       search needs,
-      under-more (start .args .bytes .now) (start .args .out .now) (loop .out) (stateOf (loop .state)) (loop .at)
+      under-more (start .args .bytes .now) (start .args .out .now) (loop .out) (loop .state) (loop .at)
           (loop .count) (loop .i) (loop .inv .2) (omega arith) (made .step .result) (made .step .ensures) (printed .add-line .result) _
           (printed .add-line .ensures .0) (c .before .if1 .left) (printed .add-line .ensures .1),
     )

@@ -23,8 +23,8 @@ add-result c =
     let on = s .pre .1 in
     omega (
       arith,
-      rectangle-total m (a .rows) (a .west) (a .grid .width) (on .0) (on .1) (on .2) (omega arith),
-      rectangle-total m (a .rows) 0 (a .end) (on .0) (on .1) zero-le (on .3),
+      rectangle-total m (a .rows) (a .west) (a .grid .width) (on .ordered) (on .south) (on .west) (omega arith),
+      rectangle-total m (a .rows) 0 (a .end) (on .ordered) (on .south) zero-le (on .end),
       s .pre .0 .exact,
       c .before .inland .ensures,
       c .strip .ensures,

@@ -15,7 +15,7 @@ apart : (c : tie.After-strip2) → let a = c .before .before .before .args in
 apart c =
     let s = c .before .before .before in
     let a = s .args in
-    omega (arith, rectangle-cut (tableMap (a .grid) (now (a .sums))) (a .rows) (a .west) (a .end) (s .pre .1 .2), c .before .strip .ensures, c .strip2 .ensures)
+    omega (arith, rectangle-cut (tableMap (a .grid) (now (a .sums))) (a .rows) (a .west) (a .end) (s .pre .1 .west), c .before .strip .ensures, c .strip2 .ensures)
 
 strip-requires : tie.Need-strip-requires
 strip-requires c κs = search needs

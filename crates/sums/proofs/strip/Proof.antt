@@ -15,7 +15,7 @@ apart : (c : tie.After-corner2) → let a = c .before .before .before .args in
 apart c =
     let s = c .before .before .before in
     let a = s .args in
-    omega (arith, corner-rows (tableMap (a .grid) (now (a .sums))) (a .rows) (a .col) (s .pre .1 .0), c .before .corner .ensures, c .corner2 .ensures)
+    omega (arith, corner-rows (tableMap (a .grid) (now (a .sums))) (a .rows) (a .col) (s .pre .1 .ordered), c .before .corner .ensures, c .corner2 .ensures)
 
 corner-requires : tie.Need-corner-requires
 corner-requires c κs = search needs

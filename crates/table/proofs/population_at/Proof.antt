@@ -1,5 +1,4 @@
 -- `table::population_at` meets its contract: the band and the span are put together, `table_of` makes the table, and `population` is asked of it.
-use denote.Struct.Laws as LL
 use denote.Struct.Rest.{own-shut}
 use Rattle.grid.specs.declared.Grid.{Grid}
 use Rattle.grid.specs.declared.Row.{Row}
@@ -17,10 +16,7 @@ use Rattle.sums.proofs.RowBand as B
 use Rattle.sums.proofs.RowBand.Laws as B′
 use Rattle.sums.proofs.ColSpan as C
 use Rattle.sums.proofs.ColSpan.Laws as C′
-use Rattle.table.specs.declared.Table.{Table}
-use Rattle.table.proofs.Table as T
 use Rattle.table.proofs.Table.Laws as T′
-use Rattle.table.proofs.table_of as new
 use Rattle.table.proofs.table_of.Symbol as new-def
 use Rattle.table.proofs.table_of.Symbol.{name as #table·table-of}
 use Rattle.table.proofs.table_of.Met as new-thm
@@ -28,19 +24,17 @@ use Rattle.table.proofs.population as work
 use Rattle.table.proofs.population.Symbol as work-def
 use Rattle.table.proofs.population.Symbol.{name as #table·population}
 use Rattle.table.proofs.population.Met as work-thm
-use Rattle.hand_proofs.proofs.Walks.{_≡_, refl, ℕ, [], _∷_, List, URA, erased, Val, SProp, ent, sep, guard, exE, snd∗, id⊢, Lft, Share, Fml, Memory, Routine, Heap, Calls, Loops, WpFn, Tables, Atoms, sem, Fun, fact, givenOf, tables, tablesOf, FmC, fmOf, owns, mirs, Typed, RefT, NamedLft, now, typesAt, Contract, Triple, ensured, lasts, Meets, tripleOf, entered, cited}
-use Rattle.hand_proofs.proofs.Walks.{Given, ‵, raw, given, later, _⊛_, _$_, _∵_, !, qed, by, move, use1, use2, split, join, fsplit3, fjoin, fjoin3, rewrite, learn, await, done, look, init, stop, from, and-then, no-more, land, returns, enter, alloc1, alloc0, params1, pass1, pass0, free0, heard, nothing, calls-at}
-use Rattle.hand_proofs.proofs.Walks.{local, arg, packs, gone, answered, hands, told, structLaw, met}
-use Rattle.table.proofs.Parts.{gridVal, sumsVal, TableT, SumsT, Tok, gridLaw, sumsLaw}
+use Rattle.hand_proofs.proofs.Walks.{_≡_, refl, ℕ, [], _∷_, List, URA, erased, Val, SProp, ent, sep, id⊢, Lft, Share, Fml, Memory, Routine, Heap, Calls, Loops, WpFn, Tables, Atoms, sem, Fun, givenOf, tables, tablesOf, FmC, fmOf, owns, mirs, Typed, RefT, now, typesAt, Contract, Triple, ensured, lasts, Meets, tripleOf, entered, cited}
+use Rattle.hand_proofs.proofs.Walks.{Given, ‵, raw, given, later, _⊛_, _$_, _∵_, !, qed, by, move, use1, use2, split, join, fsplit3, fjoin3, learn, await, done, look, init, stop, from, and-then, no-more, land, returns, enter, alloc1, alloc0, params1, pass1, pass0, free0, nothing, calls-at}
+use Rattle.hand_proofs.proofs.Walks.{local, arg, packs, gone, hands, told, structLaw, met}
+use Rattle.table.proofs.Parts.{gridVal, sumsVal, SumsT, Tok, gridLaw, sumsLaw}
+use Rattle.table.proofs.Made.{Making, making, made, TableIs, to-make, to-ask, given-table}
 use Rattle.table.proofs.population_at.Key.{name as #table·population-at}
 use Rattle.table.proofs.population_at as self
 use Rattle.table.proofs.population_at.Statement as stated
 use Rattle.table.proofs.population_at.Code as code
 
 module _ {M : Type 1} (𝓤 : URA M) (H : Heap 𝓤) (A : Atoms 𝓤) (W : Given 𝓤 H A) (mem : Memory → SProp 𝓤) (run : Routine → Fun 𝓤) where
-  abbrev New : Contract 𝓤
-  New = tripleOf 𝓤 H A new.signature (new.spec 𝓤 H A mem run)
-
   abbrev Work : Contract 𝓤
   Work = tripleOf 𝓤 H A work.signature (work.spec 𝓤 H A mem run)
 
@@ -48,9 +42,6 @@ module _ {M : Type 1} (𝓤 : URA M) (H : Heap 𝓤) (A : Atoms 𝓤) (W : Given
   Self = tripleOf 𝓤 H A self.signature (self.spec 𝓤 H A mem run)
 
   module _ (κ : Lft) (q : Share) (g : Grid) (s : RefT (List ℕ)) (north south : Row) (west east : Col) where
-    abbrev made : Table
-    made = record { grid = g; sums = s }
-
     abbrev b : RowBand
     b = record { north = north; south = south }
 
@@ -60,12 +51,9 @@ module _ {M : Type 1} (𝓤 : URA M) (H : Heap 𝓤) (A : Atoms 𝓤) (W : Given
     abbrev asked : Self .Ghost
     asked = (((κ, tt), (q, tt), tt, (g, (s, (north, (south, (west, (east, tt)))))), (gridVal g ∷ [], (sumsVal s ∷ [], (R′.lowered north ∷ [], (R′.lowered south ∷ [], (O′.lowered west ∷ [], (O′.lowered east ∷ [], tt))))))), tt)
 
-    abbrev makes : New .Ghost
-    makes = (((κ, tt), (q, tt), tt, (g, (s, tt)), (gridVal g ∷ [], (sumsVal s ∷ [], tt))), tt)
-
     -- the table's machine value is u
     abbrev asks : Val → Work .Ghost
-    asks u = (((κ, tt), (q, tt), tt, (made, (b, (c, tt))), (u ∷ [], (B′.lowered b ∷ [], (C′.lowered c ∷ [], tt)))), tt)
+    asks u = (((κ, tt), (q, tt), tt, (made 𝓤 H A W mem run κ q g s, (b, (c, tt))), (u ∷ [], (B′.lowered b ∷ [], (C′.lowered c ∷ [], tt)))), tt)
 
     -- what is kept for the second call: what the band and the span own, and the `requires`
     abbrev band-span : Fml
@@ -74,7 +62,7 @@ module _ {M : Type 1} (𝓤 : URA M) (H : Heap 𝓤) (A : Atoms 𝓤) (W : Given
     abbrev Req : SProp 𝓤
     Req = self.clauses 𝓤 H A mem run (κ, tt) (asked .0 .3) .requires tt
 
-    goes : ent 𝓤 (Self .pre asked) (sep 𝓤 (New .pre makes) (sep 𝓤 (sem 𝓤 H A band-span) Req))
+    goes : ent 𝓤 (Self .pre asked) (sep 𝓤 (Making 𝓤 H A W mem run .pre (making 𝓤 H A W mem run κ q g s)) (sep 𝓤 (sem 𝓤 H A band-span) Req))
     goes =
         qed W (((raw (Tok 𝓤 A κ q) ⊛ ‵ (owns (G.the-row ∷ SumsT κ ∷ R.the-row ∷ R.the-row ∷ O.the-row ∷ O.the-row ∷ []) (asked .0 .3) (asked .0 .4))) ⊛ raw Req) ∷ []) ∵ split ! $ split ! $ move ! (1 ∷ []) $ fsplit3 ! $ move ! (2 ∷ []) $ fsplit3 ! $
         -- [north's; south's; west's and east's; the grid's; the sums'; the token; the requires]
@@ -83,23 +71,15 @@ module _ {M : Type 1} (𝓤 : URA M) (H : Heap 𝓤) (A : Atoms 𝓤) (W : Given
         -- [the band's and the span's; the grid's; the sums'; the token; the requires]
         nothing ! $ move ! (2 ∷ 3 ∷ 0 ∷ []) $ fjoin3 ! $ move ! (2 ∷ 0 ∷ []) $ join ! $ nothing ! $ move ! (1 ∷ 0 ∷ []) $ join ! $ done !
 
-    -- what `table_of` leaves is the table, whatever its machine value
-    given-table : (u : Val) → ent 𝓤 (New .post makes u) (H .⇛ (guard 𝓤 (Typed (T′.mir erased ∷ []) (u ∷ [])) (sep 𝓤 (Tok 𝓤 A κ q) (sem 𝓤 H A (TableT κ .own made (u ∷ []))))))
-    given-table u =
-        answered 𝓤 H A W (Tok 𝓤 A κ q) (TableT κ) (λ (t : Table). ensured 𝓤 H A new.ended (new.clauses 𝓤 H A mem run) (κ, tt) (g, (s, tt)) tt t) u (T′.mir erased)
-        (λ t. let α : NamedLft = record { mir = erased; lft = κ } in LL.lawful (T.the-type α) (T′.the-laws α) 𝓤 H A W .typed t (u ∷ [])) (sep 𝓤 (Tok 𝓤 A κ q) (sem 𝓤 H A (TableT κ .own made (u ∷ []))))
-        (λ t. qed W ((raw (Tok 𝓤 A κ q) ⊛ ‵ (TableT κ .own t (u ∷ []))) ∷ raw (ensured 𝓤 H A new.ended (new.clauses 𝓤 H A mem run) (κ, tt) (g, (s, tt)) tt t) ∷ []) ∵ move ! (1 ∷ []) $
-        use1 W (raw (fact 𝓤 (t ≡ made))) (exE 𝓤 _ (λ ws. snd∗ 𝓤 (sem 𝓤 H A (lasts new.ended (κ, tt) (g, (s, tt)) ws)) (fact 𝓤 (t ≡ made)))) $ heard ! (t ≡ made) (λ e. split ! $ rewrite ! 1 (λ (t′ : Table). ‵ (TableT κ .own t′ (u ∷ []))) e refl $ done !))
+    asks-it : (u : Val) → ent 𝓤 (sep 𝓤 (sep 𝓤 (Tok 𝓤 A κ q) (sem 𝓤 H A (TableIs 𝓤 H A W mem run κ q g s u))) (sep 𝓤 (sem 𝓤 H A band-span) Req)) (Work .pre (asks u))
+    asks-it u = to-ask 𝓤 H A W mem run κ q g s band-span Req u
 
-    asks-it : (u : Val) → ent 𝓤 (sep 𝓤 (sep 𝓤 (Tok 𝓤 A κ q) (sem 𝓤 H A (TableT κ .own made (u ∷ [])))) (sep 𝓤 (sem 𝓤 H A band-span) Req)) (Work .pre (asks u))
-    asks-it u = qed W ((raw (Tok 𝓤 A κ q) ⊛ ‵ (TableT κ .own made (u ∷ []))) ∷ (‵ band-span ⊛ raw Req) ∷ []) ∵ split ! $ move ! (2 ∷ []) $ split ! $ move ! (3 ∷ 0 ∷ []) $ fjoin ! $ move ! (2 ∷ 0 ∷ []) $ join ! $ done !
-
-    says : (n : ℕ) → ent 𝓤 (ensured 𝓤 H A work.ended (work.clauses 𝓤 H A mem run) (κ, tt) (made, (b, (c, tt))) tt n) (ensured 𝓤 H A self.ended (self.clauses 𝓤 H A mem run) (κ, tt) (asked .0 .3) tt n)
+    says : (n : ℕ) → ent 𝓤 (ensured 𝓤 H A work.ended (work.clauses 𝓤 H A mem run) (κ, tt) (made 𝓤 H A W mem run κ q g s, (b, (c, tt))) tt n) (ensured 𝓤 H A self.ended (self.clauses 𝓤 H A mem run) (κ, tt) (asked .0 .3) tt n)
     says n =
         told 𝓤 H A W (lasts self.ended (κ, tt) (asked .0 .3)) (tt, (tt, (tt, (tt, (tt, (tt, tt)))))) (tt, (tt, (tt, (tt, (tt, (tt, tt)))))) (tt, (tt, (tt, (tt, (tt, (tt, tt)))))) (n ≡ bandPopulation (tableMap g (now s)) b c)
-        (lasts work.ended (κ, tt) (made, (b, (c, tt))))
+        (lasts work.ended (κ, tt) (made 𝓤 H A W mem run κ q g s, (b, (c, tt))))
 
-    module _ (K : Calls 𝓤 H) (Λ : Loops 𝓤 H) (fm : FmC 𝓤 H (W .laws) K) (known-new : Triple 𝓤 (K #table·table-of) New) (known : Triple 𝓤 (K #table·population) Work) where
+    module _ (K : Calls 𝓤 H) (Λ : Loops 𝓤 H) (fm : FmC 𝓤 H (W .laws) K) (known-new : Triple 𝓤 (K #table·table-of) (Making 𝓤 H A W mem run)) (known : Triple 𝓤 (K #table·population) Work) where
       walk : Typed (mirs (typesAt (self.signature .params) (κ, tt))) (Self .args asked) → ent 𝓤 (Self .pre asked) (WpFn 𝓤 H K Λ code.function (Self .args asked) (Self .post asked))
       walk typed =
           qed W (raw (Self .pre asked) ∷ []) ∵ enter ! K Λ code.function (Self .args asked) _ $
@@ -107,14 +87,14 @@ module _ {M : Type 1} (𝓤 : URA M) (H : Heap 𝓤) (A : Atoms 𝓤) (W : Given
           pass1 ! (init ! 12 refl (typed .1 .1 .0)) $ pass1 ! (init ! 10 refl (typed .1 .1 .1 .0)) $ pass1 ! (init ! 8 refl (typed .1 .1 .1 .1 .0)) $ pass1 ! (init ! 6 refl (typed .1 .1 .1 .1 .1 .0)) $ pass0 ! $
           -- [the locals; what there is at entry]
           packs ! 0 {u = R′.lowered north} {v = R′.lowered south} (local ! 0 refl) (local ! 0 refl) refl refl $ packs ! 0 {u = O′.lowered west} {v = O′.lowered east} (local ! 0 refl) (local ! 0 refl) refl refl $
-          move ! (20 ∷ []) $ use1 W (raw (New .pre makes) ⊛ (‵ band-span ⊛ raw Req)) goes $ split ! $
-          calls-at ! fm New known-new makes (and-then ! (arg ! 2 refl) (and-then ! (arg ! 2 refl) (no-more !))) (λ u.
-          use1 W (later (given (Typed (T′.mir erased ∷ []) (u ∷ [])) (raw (Tok 𝓤 A κ q) ⊛ ‵ (TableT κ .own made (u ∷ []))))) (given-table u) $ await ! tt $ learn ! (λ is. land ! (from ! (stop !)) (init ! 2 refl (is .0)) $
+          move ! (20 ∷ []) $ use1 W (raw (Making 𝓤 H A W mem run .pre (making 𝓤 H A W mem run κ q g s)) ⊛ (‵ band-span ⊛ raw Req)) goes $ split ! $
+          calls-at ! fm (Making 𝓤 H A W mem run) known-new (making 𝓤 H A W mem run κ q g s) (and-then ! (arg ! 2 refl) (and-then ! (arg ! 2 refl) (no-more !))) (λ u.
+          use1 W (later (given (Typed (T′.mir erased ∷ []) (u ∷ [])) (raw (Tok 𝓤 A κ q) ⊛ ‵ (TableIs 𝓤 H A W mem run κ q g s u)))) (given-table 𝓤 H A W mem run κ q g s u) $ await ! tt $ learn ! (λ is. land ! (from ! (stop !)) (init ! 2 refl (is .0)) $
           use2 W (raw (Work .pre (asks u))) (asks-it u) $
           calls-at ! fm Work known (asks u) (and-then ! (arg ! 1 refl) (and-then ! (arg ! 1 refl) (and-then ! (arg ! 1 refl) (no-more !)))) (λ v. hands ! 0 (Tok 𝓤 A κ q) _ _ says refl refl $ returns ! (look ! 19 refl) $
           gone ! 1 refl refl $ gone ! 1 refl refl $ gone ! 1 refl refl $ gone ! 1 refl refl $ gone ! 1 refl refl $ gone ! 1 refl refl $ gone ! 1 refl refl $ gone ! 1 refl refl $ gone ! 1 refl refl $ gone ! 1 refl refl $ free0 ! $ by ! (id⊢ 𝓤 _))))))))))))))
 
-  meets : (𝓣 : Tables 𝓤 H) → Triple 𝓤 (𝓣 .C #table·table-of) New → Triple 𝓤 (𝓣 .C #table·population) Work → Meets 𝓤 H A self.signature (WpFn 𝓤 H (𝓣 .C) (𝓣 .Λ) code.function) (self.spec 𝓤 H A mem run)
+  meets : (𝓣 : Tables 𝓤 H) → Triple 𝓤 (𝓣 .C #table·table-of) (Making 𝓤 H A W mem run) → Triple 𝓤 (𝓣 .C #table·population) Work → Meets 𝓤 H A self.signature (WpFn 𝓤 H (𝓣 .C) (𝓣 .Λ) code.function) (self.spec 𝓤 H A mem run)
   meets 𝓣 known-new known =
       met 𝓤 H A W self.signature (self.spec 𝓤 H A mem run) (WpFn 𝓤 H (𝓣 .C) (𝓣 .Λ) code.function)
       (λ κs. (gridLaw 𝓤 H A W, (sumsLaw 𝓤 H A W (κs .0), (structLaw 𝓤 H A W R.the-type R′.the-laws, (structLaw 𝓤 H A W R.the-type R′.the-laws, (structLaw 𝓤 H A W O.the-type O′.the-laws, (structLaw 𝓤 H A W O.the-type O′.the-laws, tt)))))))

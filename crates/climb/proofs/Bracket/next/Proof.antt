@@ -1,40 +1,47 @@
 -- `climb::Bracket::next`: each way out by what was tested.
-use Rattle.climb.proofs.NextRadii.{next-reached, next-bisected, next-climbed}
+use Rattle.climb.proofs.NextRadii.{next-fits, next-reached, next-bisected, next-climbed}
+use native.Mathlib.Omega.{arith}
 use borrow.Author.Needs.{needs}
 use Rattle.climb.proofs.Bracket.next.Statement.{statement}
 use Rattle.climb.proofs.Bracket.next.Tie as tie
+
+-- where the radius is known, and the start
+abbrev start : tie.After-radius → tie.Start
+start r = r .before .before .before
 
 radius-requires : tie.Need-radius-requires
 radius-requires c κs = search needs
 
 returns : tie.Need-returns
 returns c =
-    let st = c .before .before in
-    let km = c .before .radius in
-    next-reached (st .args .last) (st .args .self) (st .args .reached) (km .result) (km .ensures) (c .if1 .taken)
+    let r = c .before in
+    let a = start r .args in
+    next-reached (a .last .0) (a .self) (a .reached) (r .radius .result .0) (r .radius .ensures) (c .if1 .taken)
 
-add-t6 : tie.Need-add-t6
-add-t6 c = search needs
+add-t8 : tie.Need-add-t8
+add-t8 c = let r = c .before .before .before in omega (arith, next-fits (start r .pre) (r .radius .ensures))
 
 returns-2 : tie.Need-returns-2
 returns-2 c =
-    let st = c .before .before .before in
-    let km = c .before .before .radius in
-    next-bisected (st .args .last) (st .args .self) (st .args .reached) (km .result) (km .ensures) (c .before .if1 .left) (c .if2 .taken)
+    let e = c .before .before in
+    let r = e .before in
+    let a = start r .args in
+    next-bisected (a .last .0) (a .self) (a .reached) (r .radius .result .0) (r .radius .ensures) (e .if1 .left) (c .before .if2 .taken)
 
-add-t7 : tie.Need-add-t7
-add-t7 c = search needs
+add-t10 : tie.Need-add-t10
+add-t10 c = let r = c .before .before .before in omega (arith, next-fits (start r .pre) (r .radius .ensures))
 
 doubled-requires : tie.Need-doubled-requires
 doubled-requires c κs = search needs
 
 returns-3 : tie.Need-returns-3
 returns-3 c =
-    let st = c .before .before .before .before in
-    let km = c .before .before .before .radius in
-    rw (c .doubled .ensures) (next-climbed (st .args .last) (st .args .self) (st .args .reached) (km .result) (km .ensures)
-    (c .before .before .if1 .left) (c .before .if2 .left))
+    let f = c .before .before in
+    let r = f .before .before in
+    let a = start r .args in
+    rw (c .doubled .ensures)
+    (next-climbed (a .last .0) (a .self) (a .reached) (r .radius .result .0) (r .radius .ensures) (f .before .if1 .left) (f .if2 .left))
 
 pub next-spec : {M : Type 1} → statement M
 next-spec =
-    tie.close (tie.spec radius-requires returns add-t6 returns-2 add-t7 doubled-requires returns-3)
+    tie.close (tie.spec radius-requires returns add-t8 returns-2 add-t10 doubled-requires returns-3)

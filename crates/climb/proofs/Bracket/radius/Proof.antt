@@ -13,7 +13,7 @@ returns c = rw (c .before .if1 .taken) (c .middle .ensures)
 
 returns-2 : tie.Need-returns-2
 unfolding nextRadius
-returns-2 c = rw (c .if1 .left)
+returns-2 c = rw (c .before .if1 .left)
 
 pub radius-spec : {M : Type 1} → statement M
 radius-spec = tie.close (tie.spec middle-requires returns returns-2)

@@ -1,12 +1,15 @@
--- The code is the definition.
-use mathlib.Core.Path.{refl}
-use Rattle.grid.specs.Grid.{bodyRadius, arcKm}
+-- The code is the definition, the radius by its contract.
+use Rattle.grid.specs.Grid.{arcKm}
+use borrow.Author.Needs.{needs}
 use Rattle.grid.proofs.places.arc_km.Statement.{statement}
 use Rattle.grid.proofs.places.arc_km.Tie as tie
 
+body-radius-requires : tie.Need-body-radius-requires
+body-radius-requires c κs = search needs
+
 returns : tie.Need-returns
-unfolding bodyRadius arcKm
-returns c = refl
+unfolding arcKm
+returns c = rw (c .body-radius .ensures)
 
 pub arc-km-spec : {M : Type 1} → statement M
-arc-km-spec = tie.close (tie.spec returns)
+arc-km-spec = tie.close (tie.spec body-radius-requires returns)

@@ -1,6 +1,7 @@
 -- The letter at the place, or none.
-use mathlib.Core.Path.{_∙_}
+use mathlib.Core.Path.{_∙_, ap}
 use Rattle.job_commands.proofs.Operands.{decode-letter, decode-none}
+use Rattle.job_commands.specs.State.{decodedIn}
 use borrow.Author.Needs.{needs}
 use Rattle.job_commands.proofs.decoding.decode.Statement.{statement}
 use Rattle.job_commands.proofs.decoding.decode.Tie as tie
@@ -17,7 +18,7 @@ decode-as-requires c κs = search needs
 returns : tie.Need-returns
 returns c =
     let start = c .before .before .before .before in
-    c .decode-as .ensures ∙ decode-letter (start .args .bytes .now) (start .args .at) (c .before .before .if1 .taken)
+    c .decode-as .ensures ∙ ap (decodedIn (start .args .bytes .now)) (decode-letter (start .args .bytes .now) (start .args .at) (c .before .before .if1 .taken))
 
 returns-2 : tie.Need-returns-2
 returns-2 c =

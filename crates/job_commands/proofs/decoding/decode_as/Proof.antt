@@ -1,7 +1,7 @@
 -- A letter decides by itself; none of the seven is malformed.
 use borrow.Author.Tests.{ne-eqb}
 use Rattle.job_commands.specs.Command.{decodeAs}
-use Rattle.job_commands.specs.State.{decodedOf}
+use Rattle.job_commands.specs.State.{decodedIn}
 use borrow.Author.Needs.{needs}
 use Rattle.job_commands.proofs.decoding.decode_as.Statement.{statement}
 use Rattle.job_commands.proofs.decoding.decode_as.Tie as tie
@@ -56,7 +56,7 @@ unfolding decodeAs
 returns-7 c = rw (c .before .if7 .taken) (c .read-end .ensures)
 
 returns-8 : tie.Need-returns-8
-unfolding decodeAs decodedOf
+unfolding decodeAs decodedIn
 returns-8 c =
     let e6 = c .before in
     let e5 = e6 .before in

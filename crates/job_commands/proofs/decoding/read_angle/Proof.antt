@@ -53,7 +53,7 @@ returns-2 c =
     let start = c .before .before .before .before .before .before in
     let bytes = start .args .bytes in
     let from = start .args .from in
-    operands-read (bytes .now) from 11 setAngleOf _ (c .before .before .before .before .if1 .left)
+    operands-read (bytes .now) from 11 setAngleOf (start .pre) _ (c .before .before .before .before .if1 .left)
     (rw (
       number-here (bytes .now) from 1,
       number-drop (bytes .now) from 1 1,

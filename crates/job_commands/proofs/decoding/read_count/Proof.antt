@@ -44,7 +44,7 @@ returns-2 c =
     let start = c .before .before .before .before .before in
     let bytes = start .args .bytes in
     let from = start .args .from in
-    operands-read (bytes .now) from 6 setCountOf _ (c .before .before .before .if1 .left)
+    operands-read (bytes .now) from 6 setCountOf (start .pre) _ (c .before .before .before .if1 .left)
     (rw (
       number-here (bytes .now) from 1,
       number-drop (bytes .now) from 1 1,

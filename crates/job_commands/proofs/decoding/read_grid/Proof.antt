@@ -25,7 +25,7 @@ returns-2 : tie.Need-returns-2
 unfolding setGridOf
 returns-2 c =
     let start = c .before .before .before in
-    operands-read (start .args .bytes .now) (start .args .from) 26 setGridOf _ (c .before .if1 .left) (ap SetGrid (c .grid-at .ensures))
+    operands-read (start .args .bytes .now) (start .args .from) 26 setGridOf (start .pre) _ (c .before .if1 .left) (ap SetGrid (c .grid-at .ensures))
 
 pub read-grid-spec : {M : Type 1} → statement M
 read-grid-spec = tie.close (tie.spec sub-if1 returns grid-at-requires add-t4 returns-2)

@@ -38,7 +38,7 @@ returns-2 c =
     let start = c .before .before .before .before in
     let bytes = start .args .bytes in
     let from = start .args .from in
-    operands-read (bytes .now) from 4 mostOf _ (c .before .before .if1 .left)
+    operands-read (bytes .now) from 4 mostOf (start .pre) _ (c .before .before .if1 .left)
     (rw (number-here (bytes .now) from 2, number-drop (bytes .now) from 2 2, c .before .u16-at .ensures, c .u16-at2 .ensures))
 
 pub read-most-spec : {M : Type 1} → statement M

@@ -3,7 +3,6 @@ use borrow.Author.Needs.{needs}
 use native.Mathlib.Omega.{arith}
 use mathlib.Core.Path.{refl}
 use Rattle.job_lines.proofs.Decimals.{Written, none-written, place-left, more-written, all-written}
-use Rattle.job_lines.specs.State.{digitsOf}
 use Rattle.job_lines.proofs.decimal.digits_of.Statement.{statement}
 use Rattle.job_lines.proofs.decimal.digits_of.Tie as tie
 
@@ -14,7 +13,7 @@ abbrev μ-loop : tie.MeasureT-loop
 μ-loop n bytes₀ from₀ rest₀ bytes from rest = from
 
 loop-holds : tie.Need-loop-holds Inv-loop μ-loop
-loop-holds c = none-written (c .args .n) _ (search needs) refl refl
+loop-holds c = none-written (c .args .n) _ (search needs) refl
 
 cast-bytes : tie.Need-cast-bytes Inv-loop μ-loop
 cast-bytes c = omega arith
@@ -53,12 +52,9 @@ array-write-bytes-2 : tie.Need-array-write-bytes-2 Inv-loop μ-loop
 array-write-bytes-2 c = omega (arith, c .before .loop .inv .place)
 
 returns : tie.Need-returns Inv-loop μ-loop
-unfolding digitsOf
-returns c = (
-  all-written (c .before .before .args .n) (c .before .loop .bytes) (c .before .loop .from) (c .before .loop .rest) (c .before .loop .inv)
-      (c .loop-test .left),
-  omega (arith, c .before .loop .inv .place),
-)
+returns c =
+    all-written (c .before .before .args .n) (c .before .loop .bytes) (c .before .loop .from) (c .before .loop .rest) (c .before .loop .inv)
+    (c .loop-test .left)
 
 pub digits-of-spec : {M : Type 1} → statement M
 digits-of-spec =

@@ -1,8 +1,5 @@
 -- The witness, or two dashes.
-use Prim.Native.Nat.{_*_}
-use native.Mathlib.Omega.{arith}
-use Rattle.job_lines.proofs.Texts.{longer-by}
-use Rattle.job_lines.specs.Line.{longestField, shortFields}
+use Rattle.job_lines.specs.Line.{shortFields}
 use borrow.Author.Needs.{needs}
 use Rattle.job_lines.proofs.text.add_short.Statement.{statement}
 use Rattle.job_lines.proofs.text.add_short.Tie as tie
@@ -35,8 +32,7 @@ returns c = rw (c .before .before .before .before .short .given .1) (c .add-fiel
 returns-2 : tie.Need-returns-2
 unfolding shortFields
 returns-2 c =
-    rw (c .before .before .enum-told .given .1)
-    (longer-by (c .before .before .before .before .args .line) (2 * longestField) (c .append .result) _ (c .append .ensures) (omega arith))
+    rw (c .before .before .enum-told .given .1) (c .append .ensures)
 
 pub add-short-spec : {M : Type 1} → statement M
 add-short-spec =

@@ -1,24 +1,24 @@
 -- Byte behind byte.
 use borrow.Author.Needs.{needs}
-use Prim.Native.Nat.{_+_, _-_, _≤_, _<_}
+use Prim.Native.Nat.{_+_, _-_, _≤_}
 use native.Mathlib.Omega.{arith}
-use mathlib.Core.Path.{_≡_, _∙_}
+use mathlib.Core.Path.{_≡_, refl, _∙_}
 use lib.ListN.{length, take, length-set}
-use lib.Seq.{length-take-le}
-use Rattle.job_lines.proofs.Texts.{longer-none, longer-next, longer-all}
+use Rattle.job_lines.proofs.Texts.{len-so-far, longer-next, longer-all}
 use Rattle.job_lines.proofs.Whole.{line-whole}
-use Rattle.job_lines.specs.State.{lineRoom, Longer}
+use Rattle.job_lines.specs.State.{lineRoom, withByte, longer}
 use Rattle.job_lines.proofs.text.append.Statement.{statement}
 use Rattle.job_lines.proofs.text.append.Tie as tie
 
 abbrev Inv-loop : tie.InvT-loop
-Inv-loop more next₀ i₀ next i = (i ≤ length more) × (next₀ .len + length more ≤ lineRoom) × (length (next .bytes) ≡ lineRoom) × Longer next₀ next (take i more)
+Inv-loop more next₀ i₀ next i = (i ≤ length more) × (next₀ .len + length more ≤ lineRoom) × (length (next .bytes) ≡ lineRoom) × (next ≡ longer next₀ (take i more))
 
 abbrev μ-loop : tie.MeasureT-loop
 μ-loop more next₀ i₀ next i = length more - i
 
 loop-holds : tie.Need-loop-holds Inv-loop μ-loop
-loop-holds c = (omega arith, c .pre, line-whole (c .args .line) _ (c .good .0), longer-none (c .args .line))
+unfolding longer
+loop-holds c = (omega arith, c .pre, line-whole (c .args .line) _ (c .good .0), refl)
 
 shared-slice-read-next : tie.Need-shared-slice-read-next Inv-loop μ-loop
 shared-slice-read-next c = search needs
@@ -26,12 +26,14 @@ shared-slice-read-next c = search needs
 element-write-next : tie.Need-element-write-next Inv-loop μ-loop
 element-write-next c =
     let loop = c .before .before .loop in
-    omega (arith, loop .inv .3 .len, length-take-le (loop .i) (c .before .before .before .args .more .now) (loop .inv .0))
+    let start = c .before .before .before in
+    omega (arith, len-so-far (start .args .line) (loop .next) (start .args .more .now) (loop .i) (loop .inv .0) (loop .inv .3))
 
 add-next : tie.Need-add-next Inv-loop μ-loop
 add-next c =
     let loop = c .before .before .loop in
-    omega (arith, loop .inv .3 .len, length-take-le (loop .i) (c .before .before .before .args .more .now) (loop .inv .0))
+    let start = c .before .before .before in
+    omega (arith, len-so-far (start .args .line) (loop .next) (start .args .more .now) (loop .i) (loop .inv .0) (loop .inv .3))
 
 add-i : tie.Need-add-i Inv-loop μ-loop
 add-i c = search needs
@@ -40,15 +42,14 @@ loop-less : tie.Need-loop-less Inv-loop μ-loop
 loop-less c = search needs
 
 loop-again : tie.Need-loop-again Inv-loop μ-loop
+unfolding withByte
 loop-again c =
     let start = c .before .before .before in
-    let loop = c .before .before .loop in
-    let room : loop .next .len < length (loop .next .bytes)
-    = omega (arith, loop .inv .3 .len, length-take-le (loop .i) (start .args .more .now) (loop .inv .0)) in (
+    let loop = c .before .before .loop in (
       omega arith,
       loop .inv .1,
       length-set (loop .next .bytes) _ _ ∙ loop .inv .2,
-      longer-next (start .args .line) (loop .next) (start .args .more .now) (loop .i) room (c .before .loop-test .taken) (loop .inv .3),
+      longer-next (start .args .line) (loop .next) (start .args .more .now) (loop .i) (c .before .loop-test .taken) (loop .inv .3),
     )
 
 returns : tie.Need-returns Inv-loop μ-loop

@@ -10,7 +10,7 @@ append-requires : tie.Need-append-requires
 append-requires c κs = search needs
 
 returns : tie.Need-returns
-returns c = c .append .ensures .text
+returns c = c .append .ensures
 
 pub end-line-spec : {M : Type 1} → statement M
 end-line-spec =

@@ -1,10 +1,14 @@
 -- A word, eleven numbers and the end.
 use native.Mathlib.Omega.{arith}
-use mathlib.Core.Path.{_∙_}
-use Rattle.job_lines.specs.Line.{mostLine, mostFields}
+use Rattle.job_lines.proofs.Lengths.{length-most}
+use Rattle.job_lines.proofs.Texts.{begun-len, line-then}
+use Rattle.job_lines.specs.Line.{mostWord, newline, mostLine, mostFields}
 use borrow.Author.Needs.{needs}
 use Rattle.job_lines.proofs.text.most_line.Statement.{statement}
 use Rattle.job_lines.proofs.text.most_line.Tie as tie
+
+abbrev start : tie.After-begin-line → tie.Start
+start k = k .before .before .before .before .before .before .before .before .before .before
 
 cast-t7 : tie.Need-cast-t7
 cast-t7 c = search needs
@@ -28,11 +32,14 @@ begin-line-requires : tie.Need-begin-line-requires
 begin-line-requires c κs = search needs
 
 end-line-requires : tie.Need-end-line-requires
-end-line-requires c κs = omega (arith, c .begin-line .ensures .len)
+unfolding mostFields
+end-line-requires c κs = omega (arith, begun-len (c .begin-line .result) mostWord (mostFields (start c .args .found)) (c .begin-line .ensures))
 
 returns : tie.Need-returns
 unfolding mostLine mostFields
-returns c = c .end-line .ensures ∙ rw (c .before .begin-line .ensures .text)
+returns c =
+    let begun = c .before .begin-line in
+    line-then (c .end-line .result) (begun .result) _ newline (c .end-line .ensures) (begun .ensures) (omega (arith, length-most (start (c .before) .args .found)))
 
 pub most-line-spec : {M : Type 1} → statement M
 most-line-spec =

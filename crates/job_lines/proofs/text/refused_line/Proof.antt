@@ -1,10 +1,15 @@
 -- A word, a number and the end.
+use mathlib.Core.List.{[], _∷_}
 use native.Mathlib.Omega.{arith}
-use mathlib.Core.Path.{_∙_}
-use Rattle.job_lines.specs.Line.{refusedLine}
+use Rattle.job_lines.proofs.Lengths.{length-refused}
+use Rattle.job_lines.proofs.Texts.{begun-len, line-then}
+use Rattle.job_lines.specs.Line.{refusedWord, newline, refusedLine}
 use borrow.Author.Needs.{needs}
 use Rattle.job_lines.proofs.text.refused_line.Statement.{statement}
 use Rattle.job_lines.proofs.text.refused_line.Tie as tie
+
+abbrev start : tie.After-begin-line → tie.Start
+start k = k .before .before .before
 
 slice-aggregate-begin-line : tie.Need-slice-aggregate-begin-line
 slice-aggregate-begin-line c = search needs
@@ -16,11 +21,13 @@ begin-line-requires : tie.Need-begin-line-requires
 begin-line-requires c κs = search needs
 
 end-line-requires : tie.Need-end-line-requires
-end-line-requires c κs = omega (arith, c .begin-line .ensures .len)
+end-line-requires c κs = omega (arith, begun-len (c .begin-line .result) refusedWord (start c .args .n ∷ []) (c .begin-line .ensures))
 
 returns : tie.Need-returns
 unfolding refusedLine
-returns c = c .end-line .ensures ∙ rw (c .before .begin-line .ensures .text)
+returns c =
+    let begun = c .before .begin-line in
+    line-then (c .end-line .result) (begun .result) _ newline (c .end-line .ensures) (begun .ensures) (omega (arith, length-refused (start (c .before) .args .n)))
 
 pub refused-line-spec : {M : Type 1} → statement M
 refused-line-spec =

@@ -1,13 +1,14 @@
 -- R by its branches: too early, found, refused.
-use mathlib.Core.Path.{refl, _∙_}
+use mathlib.Core.Path.{refl, _∙_, ap}
 use borrow.Author.Tests.{not-true, not-false}
-use Rattle.job_step.proofs.Commands.{goneOn, too-early, refused-there, gone-on}
+use Rattle.job_step.proofs.Commands.{too-early, refused-there, gone-on}
 use Rattle.job_step.proofs.Lent.{least-found, least-refused}
 use Rattle.job_commands.specs.declared.Command.the-variants.{Least}
 use Rattle.job_lines.specs.Line.{leastLine}
 use Rattle.job_world.specs.World.{world}
-use Rattle.job_world.specs.State.{jobMap}
+use Rattle.job_world.specs.State.{jobMap, ledgerState}
 use Rattle.job_step.specs.Apply.{first}
+use Rattle.job_step.specs.State.{commandState}
 use borrow.Author.Needs.{needs}
 use Rattle.job_step.proofs.calls.run_least.Statement.{statement}
 use Rattle.job_step.proofs.calls.run_least.Tie as tie
@@ -43,7 +44,7 @@ refuse-requires-2 : tie.Need-refuse-requires-2
 refuse-requires-2 c κs = search needs
 
 returns-2 : tie.Need-returns-2
-unfolding goneOn
+unfolding commandState
 returns-2 c =
     let told = c .before .before .before .before in
     let call = told .before .before .before in
@@ -52,7 +53,7 @@ returns-2 c =
     let found = least-found s (start .args .spacing) (start .args .share) (call .least-of .result) (call .least-of .ensures) _ (told .answer .given .1) in
     c .go-on .ensures ∙ gone-on s (Least (start .args .spacing) (start .args .share)) (world (jobMap s) (call .least-of .result .ledger)) (leastLine _)
     (c .before .before .with-ledger .result) (c .before .least-line .result) found (not-false _ (call .before .if1 .left))
-    (c .before .before .with-ledger .ensures) (c .before .least-line .ensures)
+    (c .before .before .with-ledger .ensures ∙ ap (ledgerState s) (call .least-of .ensures .ledger)) (c .before .least-line .ensures)
 
 returns-3 : tie.Need-returns-3
 returns-3 c =

@@ -1,12 +1,13 @@
 -- M by its branches: too early, found, refused.
 use mathlib.Core.Path.{refl, _∙_}
 use borrow.Author.Tests.{not-true, not-false}
-use Rattle.job_step.proofs.Commands.{goneOn, state-begun, too-early, refused-there, gone-on}
+use Rattle.job_step.proofs.Commands.{too-early, refused-there, gone-on}
 use Rattle.job_step.proofs.Lent.{most-found, most-refused}
 use Rattle.job_commands.specs.declared.Command.the-variants.{Most}
 use Rattle.job_lines.specs.Line.{mostLine}
 use Rattle.job_world.specs.State.{worldOf}
 use Rattle.job_step.specs.Apply.{first}
+use Rattle.job_step.specs.State.{commandState}
 use borrow.Author.Needs.{needs}
 use Rattle.job_step.proofs.calls.run_most.Statement.{statement}
 use Rattle.job_step.proofs.calls.run_most.Tie as tie
@@ -39,7 +40,7 @@ refuse-requires-2 : tie.Need-refuse-requires-2
 refuse-requires-2 c κs = search needs
 
 returns-2 : tie.Need-returns-2
-unfolding goneOn
+unfolding commandState
 returns-2 c =
     let call = c .before .before .before .before .before in
     let start = call .before .before in
@@ -47,7 +48,7 @@ returns-2 c =
     let on = not-false _ (call .before .if1 .left) in
     let found = most-found s (start .args .spacing) (start .args .km) (call .most-of .result) (call .most-of .ensures) _ (c .before .before .before .found .given .1) in
     c .go-on .ensures ∙ gone-on s (Most (start .args .spacing) (start .args .km)) (worldOf s) (mostLine _) s (c .before .most-line .result) found on
-    (state-begun s on) (c .before .most-line .ensures)
+    refl (c .before .most-line .ensures)
 
 returns-3 : tie.Need-returns-3
 returns-3 c =

@@ -1,10 +1,10 @@
 -- E by its branches: too early, and the end.
 use mathlib.Core.Path.{refl, _∙_}
 use borrow.Author.Tests.{not-true, not-false}
-use Rattle.job_step.proofs.Commands.{state-begun, too-early, in-world}
+use Rattle.job_step.proofs.Commands.{too-early, apply-begun}
 use Rattle.job_commands.specs.declared.Command.the-variants.{End}
-use Rattle.job_step.specs.Apply.{inWorld, first, settle}
-use Rattle.job_step.specs.State.{doneOf}
+use Rattle.job_step.specs.Apply.{inWorld, first}
+use Rattle.job_step.specs.State.{commandState, doneIn, appliedIn}
 use borrow.Author.Needs.{needs}
 use Rattle.job_step.proofs.change.end.Statement.{statement}
 use Rattle.job_step.proofs.change.end.Tie as tie
@@ -20,15 +20,10 @@ blank-requires : tie.Need-blank-requires
 blank-requires c κs = search needs
 
 returns-2 : tie.Need-returns-2
-unfolding inWorld settle doneOf
+unfolding inWorld commandState doneIn appliedIn
 returns-2 c =
     let start = c .before .before in
-    rw (
-      in-world (start .args .state) End (not-false _ (c .before .if1 .left)),
-      state-begun (start .args .state)
-          (not-false _ (c .before .if1 .left)),
-      c .blank .ensures .0,
-    )
+    rw (apply-begun (start .args .state) End (not-false _ (c .before .if1 .left)), c .blank .ensures)
 
 pub end-spec : {M : Type 1} → statement M
 end-spec = tie.close (tie.spec refuse-requires returns blank-requires returns-2)

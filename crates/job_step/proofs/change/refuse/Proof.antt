@@ -1,6 +1,5 @@
 -- A refusal keeps the state and prints its number.
-use Rattle.job_step.specs.Apply.{settle}
-use Rattle.job_step.specs.State.{doneOf}
+use Rattle.job_step.specs.State.{refusedIn}
 use borrow.Author.Needs.{needs}
 use Rattle.job_step.proofs.change.refuse.Statement.{statement}
 use Rattle.job_step.proofs.change.refuse.Tie as tie
@@ -9,7 +8,7 @@ refused-line-requires : tie.Need-refused-line-requires
 refused-line-requires c κs = search needs
 
 returns : tie.Need-returns
-unfolding doneOf settle
+unfolding refusedIn
 returns c = rw (c .refused-line .ensures)
 
 pub refuse-spec : {M : Type 1} → statement M

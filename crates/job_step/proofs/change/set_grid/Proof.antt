@@ -2,7 +2,7 @@
 use mathlib.Core.Path.{_≡_, _∙_}
 use mathlib.Core.Bool.{true}
 use Rattle.job_world.specs.World.{sizeTaken}
-use Rattle.job_step.proofs.Commands.{goneOn, second-grid, grid-large, grid-refused, grid-begins}
+use Rattle.job_step.proofs.Commands.{second-grid, grid-large, grid-refused, grid-begins}
 use Rattle.grid.proofs.General.{said-no, said-yes}
 use borrow.Author.Needs.{needs}
 use Rattle.job_step.proofs.change.set_grid.Statement.{statement}
@@ -49,7 +49,7 @@ returns-3 c =
     (asked .grid-refusal .result) (asked .grid-refusal .ensures) (c .before .if3 .taken)
 
 with-grid-requires : tie.Need-with-grid-requires
-with-grid-requires c κs = taken (c .before .before)
+with-grid-requires c κs = search needs
 
 blank-requires : tie.Need-blank-requires
 blank-requires c κs = search needs
@@ -58,7 +58,6 @@ go-on-requires : tie.Need-go-on-requires
 go-on-requires c κs = search needs
 
 returns-4 : tie.Need-returns-4
-unfolding goneOn
 returns-4 c =
     let passed = c .before .before .before .before in
     let asked = passed .before in
@@ -66,7 +65,7 @@ returns-4 c =
     let with-grid = c .before .before .with-grid in
     c .go-on .ensures ∙ grid-begins (st .args .state) (st .args .grid) (asked .before .before .before .if1 .left) (taken asked)
     (asked .grid-refusal .result) (asked .grid-refusal .ensures) (passed .if3 .left) (with-grid .result) (c .before .blank .result)
-    (with-grid .ensures) (c .before .blank .ensures .0)
+    (with-grid .ensures) (c .before .blank .ensures)
 
 pub set-grid-spec : {M : Type 1} → statement M
 set-grid-spec =

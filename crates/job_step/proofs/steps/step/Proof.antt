@@ -1,5 +1,6 @@
 -- A step by its branches: a command, or none.
 use Rattle.job_step.proofs.Stepping.{step-applied, step-malformed}
+use Rattle.job_step.specs.State.{steppedTo}
 use borrow.Author.Needs.{needs}
 use Rattle.job_step.proofs.steps.step.Statement.{statement}
 use Rattle.job_step.proofs.steps.step.Tie as tie
@@ -20,6 +21,7 @@ refuse-requires : tie.Need-refuse-requires
 refuse-requires c κs = search needs
 
 returns : tie.Need-returns
+unfolding steppedTo
 returns c =
     let read = c .before .before .before .before in
     let decoded = read .before .before in
@@ -29,12 +31,13 @@ returns c =
     (read .command .given .1) (apply .ensures)
 
 returns-2 : tie.Need-returns-2
+unfolding steppedTo
 returns-2 c =
     let decoded = c .before .before .before .before .before in
     let start = decoded .before .before in
     let refuse = c .before .before .refuse in
     step-malformed (start .args .bytes .now) (start .args .at) (start .args .state) (decoded .decode .result) (decoded .decode .ensures) (refuse .result)
-    (start .args .at) (c .before .before .before .enum-told .given .1) (refuse .ensures)
+    (c .before .before .before .enum-told .given .1) (refuse .ensures)
 
 pub step-spec : {M : Type 1} → statement M
 step-spec =

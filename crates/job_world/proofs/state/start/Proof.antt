@@ -1,7 +1,6 @@
 -- The state before any command.
-use mathlib.Core.Path.{ap}
-use Rattle.job_world.specs.World.{empty}
-use Rattle.job_world.specs.State.{stateOf}
+use Rattle.floats.proofs.Literals.{literal-0}
+use Rattle.job_world.specs.State.{noGrid, startState}
 use borrow.Author.Needs.{needs}
 use Rattle.job_world.proofs.state.start.Statement.{statement}
 use Rattle.job_world.proofs.state.start.Tie as tie
@@ -19,8 +18,15 @@ fresh-requires : tie.Need-fresh-requires
 fresh-requires c κs = search needs
 
 returns : tie.Need-returns
-unfolding stateOf
-returns c = ap empty (c .fresh .ensures)
+unfolding startState noGrid
+returns c =
+    rw (
+      c .before .before .before .zero-counts .ensures,
+      c .before .before .zero-angles .ensures,
+      c .before .unit-cosines .ensures,
+      c .fresh .ensures,
+      literal-0,
+    )
 
 pub start-spec : {M : Type 1} → statement M
 start-spec =

@@ -1,5 +1,5 @@
--- The arrays' fronts are a map with nothing set.
-use Rattle.job_world.proofs.Maps.{grid-begun}
+-- Nothing set, and no entries.
+use Rattle.job_world.specs.State.{gridState}
 use borrow.Author.Needs.{needs}
 use Rattle.job_world.proofs.state.with_grid.Statement.{statement}
 use Rattle.job_world.proofs.state.with_grid.Tie as tie
@@ -17,12 +17,14 @@ emptied-requires : tie.Need-emptied-requires
 emptied-requires c κs = search needs
 
 returns : tie.Need-returns
+unfolding gridState
 returns c =
-    let start = c .before .before .before .before in
-    let zero-counts = c .before .before .before .zero-counts in
-    let zero-angles = c .before .before .zero-angles in
-    grid-begun (start .args .grid) (start .pre) (start .args .ledger) (zero-counts .result) (zero-angles .result) (c .before .unit-cosines .result)
-    (c .emptied .result) (zero-counts .ensures) (zero-angles .ensures) (c .before .unit-cosines .ensures) (c .emptied .ensures)
+    rw (
+      c .before .before .before .zero-counts .ensures,
+      c .before .before .zero-angles .ensures,
+      c .before .unit-cosines .ensures,
+      c .emptied .ensures,
+    )
 
 pub with-grid-spec : {M : Type 1} → statement M
 with-grid-spec =

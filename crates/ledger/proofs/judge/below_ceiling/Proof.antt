@@ -1,12 +1,13 @@
--- The ceiling is the Earth's on every grid.
-use mathlib.Core.Path.{refl}
-use Rattle.grid.specs.Grid.{ceiling}
+-- The comparison with the grid's ceiling.
+use borrow.Author.Needs.{needs}
 use Rattle.ledger.proofs.judge.below_ceiling.Statement.{statement}
 use Rattle.ledger.proofs.judge.below_ceiling.Tie as tie
 
+ceiling-requires : tie.Need-ceiling-requires
+ceiling-requires c κs = search needs
+
 returns : tie.Need-returns
-unfolding ceiling
-returns c = refl
+returns c = rw (c .ceiling .ensures)
 
 pub below-ceiling-spec : {M : Type 1} → statement M
-below-ceiling-spec = tie.close (tie.spec returns)
+below-ceiling-spec = tie.close (tie.spec ceiling-requires returns)

@@ -6,7 +6,7 @@ use native.Mathlib.Nat.{min-eq-left}
 use lib.ListN.{length, drop}
 use borrow.Author.Tests.{not-true, not-false, leb-true}
 use borrow.Author.Needs.{needs}
-use Rattle.grid.specs.Grid.{ceiling}
+use Rattle.grid.proofs.Body.{ceiling-most}
 use Rattle.ledger.specs.Ledger.{capacity, entries, ledgerInOrder}
 use Rattle.ledger.proofs.Whole.{places-whole}
 use Rattle.ledger.proofs.Places.{orderFrom, from-end, order-counted, order-beyond, order-next, order-stop, order-end, km-below}
@@ -57,10 +57,10 @@ returns-2 c =
     (sym (c .before .follows .ensures) ∙ not-true _ (c .if2 .taken)))
 
 add-least : tie.Need-add-least Inv-loop μ-loop
-unfolding ceiling
 add-least c =
     let h = c .before .before .before .before .before .loop in
-    omega (arith, km-below _ (h .least) _ (sym (c .before .before .follows .ensures) ∙ not-false _ (c .before .if2 .left)))
+    let g = start (c .before .before .before .before .before) .args .grid in
+    omega (arith, ceiling-most g, km-below g (h .least) _ (sym (c .before .before .follows .ensures) ∙ not-false _ (c .before .if2 .left)))
 
 add-i : tie.Need-add-i Inv-loop μ-loop
 add-i c = search needs

@@ -18,9 +18,9 @@ lesser-requires c κs = search needs
 greater-requires : tie.Need-greater-requires
 greater-requires c κs = search needs
 
-add-t13 : tie.Need-add-t13
+add-t9 : tie.Need-add-t9
 unfolding radiiOf
-add-t13 c = let h = rw (c .before .before .before .ambiguity .given .1) at (c .before .before .before .before .before .pre) in omega arith
+add-t9 c = let h = rw (c .before .before .before .ambiguity .given .1) at (c .before .before .before .before .before .pre) in omega arith
 
 returns : tie.Need-returns
 unfolding widened
@@ -38,6 +38,6 @@ widened-spec =
     enum-known-ambiguity
     lesser-requires
     greater-requires
-    add-t13
+    add-t9
     returns
     returns-2)

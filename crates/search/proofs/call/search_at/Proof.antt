@@ -6,8 +6,8 @@ use Rattle.search.proofs.call.search_at.Statement.{statement}
 use Rattle.search.proofs.call.search_at.Tie as tie
 
 -- the start, where the radius is compared with 0
-abbrev start : tie.After-slice-known2 → tie.Start
-start c = c .before .before .before .before .before
+abbrev start : tie.After-struct-known → tie.Start
+start c = c .before .before .before .before .before .before
 
 nothing-requires : tie.Need-nothing-requires
 nothing-requires c κs = search needs
@@ -19,7 +19,7 @@ returns : tie.Need-returns
 returns c =
     let n = c .before in
     let a = start (n .before .before) .args in
-    c .answer-of .ensures ∙ search-none _ (a .spacing) (a .km) (n .nothing .result) (n .before .if1 .taken) (n .nothing .ensures)
+    c .answer-of .ensures ∙ search-none _ (a .spacing) (a .km .0) (n .nothing .result) (n .before .if1 .taken) (n .nothing .ensures)
 
 int-to-float-radius : tie.Need-int-to-float-radius
 int-to-float-radius c = search needs
@@ -45,7 +45,7 @@ returns-2 c =
     let s = f .before .before .before in
     let e = s .before .before in
     let a = start (e .before) .args in
-    c .answer-of2 .ensures ∙ search-found _ (a .spacing) (a .km) (s .spacing-of .result) (f .searched .result) (e .if1 .left) (s .spacing-of .ensures)
+    c .answer-of2 .ensures ∙ search-found _ (a .spacing) (a .km .0) (s .spacing-of .result) (f .searched .result) (e .if1 .left) (s .spacing-of .ensures)
     (f .searched .ensures)
 
 pub search-at-spec : {M : Type 1} → statement M

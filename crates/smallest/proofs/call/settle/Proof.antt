@@ -11,11 +11,11 @@ start k = k .before .before .before .before .before .before .before .before
 abbrev known : tie.After-run → tie.After-predicate-slack-persons
 known r = r .before .before .before
 
-abbrev ended : tie.After-state → tie.After-run
-ended s = s .before .before .before .before .before .before
+abbrev ended : tie.After-end → tie.After-run
+ended s = s .before .before .before .before .before
 
-total-requires : tie.Need-total-requires
-total-requires c κs = search needs
+whole-at-requires : tie.Need-whole-at-requires
+whole-at-requires c κs = search needs
 
 target-of-requires : tie.Need-target-of-requires
 target-of-requires c κs = search needs
@@ -26,13 +26,14 @@ predicate-slack-persons-requires c κs = search needs
 run-requires : tie.Need-run-requires
 run-requires c κs =
     let k = c .before .before in
-    can-run (start k .pre) (start k .args .spacing) (k .before .before .total .ensures) (k .before .target-of .ensures) (k .predicate-slack-persons .ensures)
+    can-run (start k .pre) (start k .args .spacing) (k .before .before .whole-at .ensures) (k .before .target-of .ensures) (k .predicate-slack-persons .ensures)
 
 conclude-requires : tie.Need-conclude-requires
 conclude-requires c κs =
     let r = ended c in
     let k = known r in
-    can-conclude (start k .pre) (start k .args .spacing) (k .before .before .total .ensures) (k .before .target-of .ensures) (k .predicate-slack-persons .ensures) (r .run .ensures)
+    can-conclude (start k .pre) (start k .args .spacing) (k .before .before .whole-at .ensures) (k .before .target-of .ensures) (k .predicate-slack-persons .ensures) (r .run .ensures .0)
+    (r .run .ensures .1)
 
 same-length : tie.Need-same-length
 same-length c = search needs
@@ -44,14 +45,14 @@ returns : tie.Need-returns
 returns c =
     let r = ended (c .before .before) in
     let k = known r in
-    is-settled (start k .pre) (start k .args .spacing) (k .before .before .total .ensures) (k .before .target-of .ensures) (k .predicate-slack-persons .ensures) (r .run .ensures)
+    is-settled (start k .pre) (start k .args .spacing) (k .before .before .whole-at .ensures) (k .before .target-of .ensures) (k .predicate-slack-persons .ensures) (r .run .ensures .0)
     (c .before .conclude .ensures)
 
 pub settle-spec : {M : Type 1} → statement M
 settle-spec =
     tie.close
     (tie.spec
-    total-requires
+    whole-at-requires
     target-of-requires
     predicate-slack-persons-requires
     run-requires

@@ -1,0 +1,3 @@
+-- The loop of a run, and what its end gives.
+pub mod RunLoop
+pub mod Ends

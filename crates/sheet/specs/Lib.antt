@@ -1,0 +1,3 @@
+pub mod Judge
+pub mod Requires
+pub mod State
