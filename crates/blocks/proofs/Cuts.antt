@@ -1,19 +1,16 @@
--- Children and tiles one after the other, as the code writes them.
-use Prim.Native.Nat.{ℕ, _+_, _<_}
-use mathlib.Core.Path.{_≡_, refl, sym, ap, _∙_}
-use mathlib.Core.Bool.{false}
+-- Children and tiles one after the other: a range halved and cut in steps, a block's children by rows, and the grid's tiles row by row.
+use Prim.Native.Nat.{ℕ, zero, suc, _+_, _-_, _≤_, _<_, min}
+use mathlib.Core.Path.{_≡_, refl, ap, _∙_}
+use mathlib.Core.Bool.{false, cond}
 use mathlib.Core.List.{List, [], _∷_, _++_, append-nil}
 use native.Mathlib.Omega.{arith}
-use native.Mathlib.Nat.{add-zero}
-use lib.ListN.{length, set, length-append}
-use borrow.Author.Tests.{eq-eqb, ne-eqb}
+use lib.Dec.{leb}
+use borrow.Author.Tests.{eq-eqb, ne-eqb, le-leb, lt-leb}
 use Rattle.lists.specs.Lists.{each, concatEach}
-use Rattle.lists.proofs.Folds.{length-each, each-append}
-use Rattle.lists.proofs.Writes.{written-none, Writing, writing-start, writing-step, writing-more, writing-end, writing-done}
+use Rattle.grid.specs.declared.Grid.{Grid}
 use Rattle.blocks.specs.declared.Block.{Block}
-use Rattle.blocks.specs.Block.{range, block, isCell, middle, cross, halves, split}
-use Rattle.blocks.specs.State.{Written, base, wordOf, columnHalves}
-use Rattle.blocks.specs.Requires.{CanHalve, CanSplit}
+use Rattle.blocks.specs.Block.{Range, range, block, isCell, middle, steps, cross, tile, halves, split}
+use Rattle.blocks.specs.State.{base, columnHalves, tileRow}
 
 -- ---- halves
 
@@ -30,21 +27,14 @@ pub middle-small : (low high : ℕ) → low < base → high < base → middle lo
 unfolding middle
 middle-small low high p q = omega arith
 
--- ---- a block whose columns are halved
+-- ---- a block split
 
--- what has been written, once nothing is left
-pub all-written : {l₀ : List ℕ} {at₀ : ℕ} {whole l : List ℕ} {at : ℕ} {left : List ℕ} → Writing l₀ at₀ whole l at left → left ≡ [] → Written l₀ at₀ whole l at
-all-written w e = record { place = writing-end w e; words = writing-done w e }
-
-module _ (b : Block) (l : List ℕ) (at : ℕ) (h : CanHalve b l at) where
-  abbrev west : ℕ → Block
+module _ (b : Block) where
+  abbrev pub west : ℕ → Block
   west mid = block (range (b .north .0) (b .south .0)) (range (b .first .0) mid)
 
-  abbrev east : ℕ → Block
+  abbrev pub east : ℕ → Block
   east mid = block (range (b .north .0) (b .south .0)) (range (mid + 1) (b .last .0))
-
-  start : Writing l at (each wordOf (columnHalves b)) l at (each wordOf (columnHalves b))
-  start = writing-start l at (each wordOf (columnHalves b)) (rw (length-each wordOf (columnHalves b)) (h .room))
 
   pub columns-one : b .first .0 ≡ b .last .0 → columnHalves b ≡ b ∷ []
   unfolding columnHalves each
@@ -54,29 +44,6 @@ module _ (b : Block) (l : List ℕ) (at : ℕ) (h : CanHalve b l at) where
   unfolding columnHalves each
   columns-two e = rw (halves-two (b .first .0) (b .last .0) e)
 
-  pub room-one : b .first .0 ≡ b .last .0 → at < length l
-  room-one e = omega (arith, h .room, ap (length {A = Block}) (columns-one e))
-
-  pub room-two : (b .first .0 ≡ b .last .0 → ⊥) → at + 1 < length l
-  room-two e = omega (arith, h .room, ap (length {A = Block}) (columns-two e))
-
-  pub halve-one : (v : ℕ) → b .first .0 ≡ b .last .0 → v ≡ wordOf b → Written l at (each wordOf (columnHalves b)) (set l at v) (at + 1)
-  unfolding each
-  halve-one v e k = rw k (all-written (writing-step start (wordOf b) [] (ap (each wordOf) (columns-one e))) refl)
-
-  pub halve-two : (mid v w : ℕ) → (b .first .0 ≡ b .last .0 → ⊥) → mid ≡ middle (b .first .0) (b .last .0) → v ≡ wordOf (west mid) → w ≡ wordOf (east mid)
-      → Written l at (each wordOf (columnHalves b)) (set (set l at v) (at + 1) w) (at + 2)
-  unfolding each
-  halve-two mid v w e m p q =
-      let two : each wordOf (columnHalves b) ≡ wordOf (west mid) ∷ wordOf (east mid) ∷ [] = rw m (ap (each wordOf) (columns-two e)) in
-      let one = writing-step start (wordOf (west mid)) (wordOf (east mid) ∷ []) two in
-      let done = all-written (writing-step one (wordOf (east mid)) [] refl) refl in
-      let k : at + 1 + 1 ≡ at + 2 = omega arith in
-      rw (p, q, ← k) done
-
--- ---- a block split
-
-module _ (b : Block) where
   abbrev pub upper : ℕ → Block
   upper mid = block (range (b .north .0) mid) (range (b .first .0) (b .last .0))
 
@@ -96,36 +63,67 @@ module _ (b : Block) where
       (ap (λ (r : List Block). each (block (range (b .north .0) (middle (b .north .0) (b .south .0)))) (halves (b .first .0) (b .last .0)) ++ r)
       (append-nil (each (block (range (middle (b .north .0) (b .south .0) + 1) (b .south .0))) (halves (b .first .0) (b .last .0)))))
 
-  pub none-written : (l : List ℕ) (at : ℕ) → split b ≡ [] → Written l at (each wordOf (split b)) l at
+-- ---- the numbers below n, cut in steps from low on
+
+-- enough fuel is as good as more
+steps-fuel : (f f′ step low n : ℕ) → 1 ≤ n → n ≤ f + low → n ≤ f′ + low → steps f step low (n - 1) ≡ steps f′ step low (n - 1)
+unfolding steps
+steps-fuel zero zero step low n p h h′ = refl
+steps-fuel zero (suc f′) step low n p h h′ = rw (lt-leb low (n - 1) (omega arith))
+steps-fuel (suc f) zero step low n p h h′ = rw (lt-leb low (n - 1) (omega arith))
+steps-fuel (suc f) (suc f′) step low n p h h′ =
+    let end = min (low + (step - 1)) (n - 1) in
+    ap (λ (r : List Range). cond (leb low (n - 1)) (range low end ∷ r) []) (steps-fuel f f′ step (end + 1) n p (omega arith) (omega arith))
+
+abbrev pub cuts : ℕ → ℕ → ℕ → List Range
+cuts n step low = steps (n - low) step low (n - 1)
+
+pub cuts-none : (n step low : ℕ) → n ≤ low → cuts n step low ≡ []
+unfolding steps
+cuts-none n step low h = let e : n - low ≡ 0 = omega arith in rw e
+
+pub cuts-more : (n step low end : ℕ) → low < n → end ≡ min (low + (step - 1)) (n - 1) → cuts n step low ≡ range low end ∷ cuts n step (end + 1)
+unfolding steps
+cuts-more n step low end h e =
+    let k : n - low ≡ suc (n - low - 1) = omega arith in
+    ap (λ (f : ℕ). steps f step low (n - 1)) k
+    ∙ rw (le-leb low (n - 1) (omega arith), e)
+    (ap {B = List Range} (λ r. range low (min (low + (step - 1)) (n - 1)) ∷ r)
+    (steps-fuel (n - low - 1) (n - (min (low + (step - 1)) (n - 1) + 1)) step (min (low + (step - 1)) (n - 1) + 1) n (omega arith) (omega arith) (omega arith)))
+
+-- ---- tiles
+
+module _ (width spacing : ℕ) (rows : Range) where
+  -- the tiles that are left of a row, from a column on
+  abbrev pub rowFrom : ℕ → List Block
+  rowFrom first = each (block rows) (cuts width spacing first)
+
+  pub row-all : rowFrom 0 ≡ tileRow width spacing rows
+  unfolding tileRow
+  row-all = let e : width - 0 ≡ width = omega arith in rw e
+
+  pub row-none : (first : ℕ) → width ≤ first → rowFrom first ≡ []
   unfolding each
-  none-written l at e = rw e (record { place = sym (add-zero at); words = sym (written-none at l) })
+  row-none first h = rw (cuts-none width spacing first h)
 
-  pub columns-fit : (l : List ℕ) (at : ℕ) → CanSplit b l at → split b ≡ columnHalves b → CanHalve b l at
-  columns-fit l at h e = record { first = h .small .first; last = h .small .last; room = rw e at (h .room) }
+  pub row-cut : (first last : ℕ) → first < width → last ≡ min (first + (spacing - 1)) (width - 1) → rowFrom first ≡ block rows (range first last) ∷ rowFrom (last + 1)
+  unfolding each
+  row-cut first last h e = ap (each (block rows)) (cuts-more width spacing first last h e)
 
-  module _ (l : List ℕ) (at : ℕ) (h : CanSplit b l at) (mid : ℕ) (e : isCell b ≡ false) (s : b .north .0 ≡ b .south .0 → ⊥)
-      (m : mid ≡ middle (b .north .0) (b .south .0)) where
-    number : length (split b) ≡ length (columnHalves (upper mid)) + length (columnHalves (lower mid))
-    number = ap (length {A = Block}) (split-rows mid e s m) ∙ length-append (columnHalves (upper mid)) (columnHalves (lower mid))
+module _ (width height spacing : ℕ) where
+  -- the tiles that are left, from a row on
+  abbrev pub tilesFrom : ℕ → List Block
+  tilesFrom north = cross (cuts height spacing north) (steps width spacing 0 (width - 1))
 
-    pub upper-fits : CanHalve (upper mid) l at
-    upper-fits = record { first = h .small .first; last = h .small .last; room = omega (arith, number, h .room) }
+  pub tiles-none : (north : ℕ) → height ≤ north → tilesFrom north ≡ []
+  unfolding cross concatEach
+  tiles-none north h = rw (cuts-none height spacing north h)
 
-    pub lower-fits : (l′ : List ℕ) (next : ℕ) → length l′ ≡ length l → Written l at (each wordOf (columnHalves (upper mid))) l′ next → CanHalve (lower mid) l′ next
-    lower-fits l′ next k w =
-        let n : next ≡ at + length (each wordOf (columnHalves (upper mid))) = w .place in
-        record { first = h .small .first; last = h .small .last; room = omega (arith, number, h .room, length-each wordOf (columnHalves (upper mid))) }
+  pub tiles-cut : (north south : ℕ) → north < height → south ≡ min (north + (spacing - 1)) (height - 1)
+      → tilesFrom north ≡ tileRow width spacing (range north south) ++ tilesFrom (south + 1)
+  unfolding cross concatEach tileRow
+  tiles-cut north south h e = ap (λ (r : List Range). cross r (steps width spacing 0 (width - 1))) (cuts-more height spacing north south h e)
 
-    pub both-written : (l′ l″ : List ℕ) (next end : ℕ) → Written l at (each wordOf (columnHalves (upper mid))) l′ next
-        → Written l′ next (each wordOf (columnHalves (lower mid))) l″ end → Written l at (each wordOf (split b)) l″ end
-    both-written l′ l″ next end u v =
-        let north = each wordOf (columnHalves (upper mid)) in
-        let south = each wordOf (columnHalves (lower mid)) in
-        let whole : each wordOf (split b) ≡ north ++ south =
-        ap (each wordOf) (split-rows mid e s m) ∙ each-append wordOf (columnHalves (upper mid)) (columnHalves (lower mid)) in
-        let w₀ = writing-start l at (each wordOf (split b)) (rw (length-each wordOf (split b)) (h .room)) in
-        let w₁ = writing-more w₀ north south l′ whole (u .words) in
-        let p : at + length north ≡ next = sym (u .place) in
-        let w₂ = writing-more w₁ south [] l″ (sym (append-nil south)) (rw p (v .words)) in
-        let q : at + length north + length south ≡ end = ap (λ (k : ℕ). k + length south) p ∙ sym (v .place) in
-        rw (← q) (all-written w₂ refl)
+pub tiles-all : (g : Grid) (spacing : ℕ) → tilesFrom (g .width) (g .height) spacing 0 ≡ tile g spacing
+unfolding tile
+tiles-all g spacing = let e : g .height - 0 ≡ g .height = omega arith in rw e

@@ -4,4 +4,3 @@ pub mod Shapes
 pub mod Tiles
 pub mod Words
 pub mod Cuts
-pub mod TileWords

@@ -212,3 +212,7 @@ split-shorter g b r =
         → (b .north .0 < b .south .0) ⊎ (b .first .0 < b .last .0) → extent (block s c) < extent b
     shorter s c p q (inl h) = omega (arith, p .shorter h)
     shorter s c p q (inr h) = omega (arith, q .shorter h)
+
+-- there are at most as many tiles as cells
+pub tile-room : (g : Grid) (spacing : ℕ) → 1 ≤ g .width → 1 ≤ g .height → length (tile g spacing) ≤ cells g
+tile-room g spacing w h = omega (arith, tile-area g spacing w h, length-area g (tile-rectangle g spacing w h))

@@ -1,10 +1,7 @@
--- What the functions on blocks and their buffers ask: numbers that a word can hold, and room for what they write.
-use Prim.Native.Nat.{ℕ, _+_, _≤_, _<_}
-use mathlib.Core.List.{List}
-use lib.ListN.{length}
+-- What functions on blocks ask: numbers that a word can hold.
+use Prim.Native.Nat.{_<_}
 use Rattle.blocks.specs.declared.Block.{Block}
-use Rattle.blocks.specs.Block.{split}
-use Rattle.blocks.specs.State.{base, columnHalves}
+use Rattle.blocks.specs.State.{base}
 
 -- a block whose four numbers a word can hold
 pub record Small (b : Block) : Type 0 where
@@ -12,14 +9,3 @@ pub record Small (b : Block) : Type 0 where
   pub south : b .south .0 < base
   pub first : b .first .0 < base
   pub last : b .last .0 < base
-
--- a block of small numbers, and room for its children from place at on
-pub record CanSplit (b : Block) (l : List ℕ) (at : ℕ) : Type 0 where
-  pub small : Small b
-  pub room : at + length (split b) ≤ length l
-
--- columns that a word can hold, and room for a block's halves by column from place at on
-pub record CanHalve (b : Block) (l : List ℕ) (at : ℕ) : Type 0 where
-  pub first : b .first .0 < base
-  pub last : b .last .0 < base
-  pub room : at + length (columnHalves b) ≤ length l

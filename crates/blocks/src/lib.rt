@@ -1,17 +1,15 @@
-// Blocks, the rectangles of centres that a search works on: their cells, their words and their pieces.
+// Blocks, the rectangles of centres that a search works on: their cells and their words.
 mod cells;
-mod pieces;
 mod word;
 
 pub use cells::area;
 pub use cells::by_probe;
 pub use cells::is_cell;
+pub use cells::middle;
 pub use cells::probe;
 pub use cells::same_shape;
 use grid::Col;
 use grid::Row;
-pub use pieces::split;
-pub use pieces::tile;
 pub use word::from_word;
 pub use word::to_word;
 pub use word::words_by_probe;

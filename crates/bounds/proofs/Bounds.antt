@@ -5,8 +5,8 @@ use lib.Ieee.{Float}
 use Rattle.grid.specs.declared.Cell.{Cell}
 use Rattle.grid.specs.Grid.{cell, onGrid}
 use Rattle.grid.specs.Map.{Globe, Map}
-use Rattle.kernel.specs.Circle.{inCircle, population}
-use Rattle.kernel.proofs.Populations.{population-le}
+use Rattle.circle_cells.specs.Circle.{inCircle, population}
+use Rattle.circle_cells.proofs.Populations.{population-le}
 use Rattle.blocks.specs.declared.Block.{Block}
 use Rattle.blocks.specs.Block.{probe, Rectangle, Holds}
 use Rattle.bounds.specs.Bound.{wideKm, inWideCircle, bound}

@@ -19,9 +19,9 @@ use Rattle.floats.proofs.Total.{lt-not-le}
 use Rattle.grid.specs.declared.Cell.{Cell}
 use Rattle.grid.specs.Grid.{cell, angleOf, onGrid}
 use Rattle.grid.specs.Map.{Globe}
-use Rattle.kernel.specs.Circle.{angleTo}
-use Rattle.kernel.proofs.Angle.{angle-mono, angle-whole}
-use Rattle.kernel.proofs.Circles.{not-zero, circle-in, circle-out}
+use Rattle.circle_cells.specs.Circle.{angleTo}
+use Rattle.circle_cells.proofs.Angle.{angle-mono, angle-whole}
+use Rattle.circle_cells.proofs.Circles.{not-zero, circle-in, circle-out}
 use Rattle.blocks.specs.declared.Block.{Block}
 use Rattle.blocks.specs.Block.{range, block, probe, Rectangle, Holds}
 use Rattle.bounds.specs.Bound.{slackKm, wideKm, inWideCircle}

@@ -8,7 +8,7 @@ use Rattle.lists.specs.Counted.{open-counted}
 use Rattle.grid.specs.Numbers.{largest}
 use Rattle.grid.specs.Grid.{open-grids, cell}
 use Rattle.grid.specs.Map.{Globe, open-maps}
-use Rattle.kernel.specs.Circle.{open-circles, inCircle}
+use Rattle.circle_cells.specs.Circle.{open-circles, inCircle}
 use Rattle.blocks.specs.declared.Block.{Block}
 use Rattle.blocks.specs.Block.{range, block, open-blocks}
 use Rattle.bounds.specs.Bound.{open-bounds, slackKm, widenedBy, wideKm, inWideCircle}

@@ -8,7 +8,7 @@ use Rattle.grid.specs.declared.Cell.{Cell}
 use Rattle.grid.specs.Numbers.{radian, ε, largest}
 use Rattle.grid.specs.Grid.{arcKm, centreLat}
 use Rattle.grid.specs.Map.{Globe, Map, cosineAt}
-use Rattle.kernel.specs.Circle.{inCircle, population}
+use Rattle.circle_cells.specs.Circle.{inCircle, population}
 use Rattle.blocks.specs.declared.Block.{Block}
 use Rattle.blocks.specs.Block.{probe}
 

@@ -5,7 +5,7 @@ use Rattle.floats.specs.Binary.{whole}
 use Rattle.grid.specs.declared.Cell.{Cell}
 use Rattle.grid.specs.Grid.{ceiling, onGrid}
 use Rattle.grid.specs.Map.{Globe}
-use Rattle.kernel.specs.Circle.{inCircle}
+use Rattle.circle_cells.specs.Circle.{inCircle}
 use Rattle.blocks.specs.declared.Block.{Block}
 use Rattle.blocks.specs.Block.{Rectangle, Holds}
 use Rattle.bounds.specs.Bound.{inWideCircle}

@@ -1,5 +1,4 @@
 pub mod Bound
 pub mod Requires
 pub mod State
-pub mod Spacing
 pub mod Fair

@@ -4,7 +4,7 @@ use mathlib.Core.List.{List}
 use lib.ListN.{length}
 use lib.Ieee.{Float}
 use Rattle.grid.specs.declared.Grid.{Grid}
-use Rattle.kernel.specs.Requires.{Sheet}
+use Rattle.reach.specs.Requires.{Sheet}
 use Rattle.blocks.specs.declared.Block.{Block}
 use Rattle.blocks.specs.Block.{Rectangle}
 

@@ -15,9 +15,10 @@ use Rattle.sums.specs.Requires.{Fillable}
 use Rattle.sums.proofs.Tables.{fillable, table-map, summed}
 use Rattle.kernel.specs.declared.Kernel.{Kernel}
 use Rattle.circle.specs.Call.{circleOwn}
-use Rattle.kernel.specs.Circle.{population}
+use Rattle.circle_cells.specs.Circle.{population}
 use Rattle.kernel.specs.Kernel.{kernelOf, kernelPopulation}
-use Rattle.kernel.specs.Requires.{OnSheet, CanSum}
+use Rattle.reach.specs.Requires.{OnSheet}
+use Rattle.kernel.specs.Requires.{CanSum}
 use Rattle.kernel.proofs.Placing.{on-sheet, placed, circle-people}
 
 module _ (m : Map) (sums : List ℕ) (km : ℕ) (centre : Cell) (p : PassedCall m (circleOwn (m .globe .grid) sums km centre)) where

@@ -8,7 +8,7 @@ use Rattle.grid.specs.Map.{Map}
 use Rattle.grid.specs.Answer.{firstNo, answered, refused, after}
 use Rattle.grid.proofs.Answers.{PassedCall, map-then, decide-yes, decide-no}
 use Rattle.sums.specs.Sums.{filledSums}
-use Rattle.kernel.specs.Circle.{population}
+use Rattle.circle_cells.specs.Circle.{population}
 use Rattle.circle.specs.Call.{circleOwn, circleQuestions, circleCall}
 
 -- ---- the questions of the call

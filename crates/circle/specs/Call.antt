@@ -11,7 +11,7 @@ use Rattle.grid.specs.Questions.{mapQuestions, radiusInRange}
 use Rattle.sums.specs.Sums.{sumsFit, filledSums}
 use Rattle.circle.specs.declared.CircleAnswer.{CircleAnswer}
 use Rattle.circle.specs.declared.CircleAnswer.the-variants as circle-answer
-use Rattle.kernel.specs.Circle.{population}
+use Rattle.circle_cells.specs.Circle.{population}
 
 -- the questions of the call after the map's
 abbrev pub circleOwn : Grid → List ℕ → ℕ → Cell → List Question

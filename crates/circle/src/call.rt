@@ -25,7 +25,7 @@ fn circle_asked(
         (lentMap grid (now (counts .entry)) (now (angles .entry)) (now (cosines .entry)))
         (now (sums .entry)) km centre)) km ⌝ }
 {
-    let refusal = sheet::map_refusal(grid, counts, angles, cosines);
+    let refusal = map_questions::map_refusal(grid, counts, angles, cosines);
     if refusal != 0 {
         return Asked::Refused(refusal);
     }

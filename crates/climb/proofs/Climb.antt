@@ -1,4 +1,4 @@
--- The climb and the bisection over any probe: what a run probed, where it ends, at most 28 probes, no kilometre twice. Of a probe nothing is asked.
+-- The climb and the bisection over any probe: what a run probed, where it ends, at most the most radii, no kilometre twice. Of a probe nothing is asked.
 use Prim.Native.Nat.{ℕ, zero, suc, _+_, _-_, _/_, _^_, _≤_, _<_}
 use mathlib.Core.Path.{_≡_, refl}
 use mathlib.Core.Logic.{_⊎_, inl, inr}
@@ -13,7 +13,7 @@ use Rattle.lists.specs.Lists.{fold}
 use Rattle.lists.proofs.Bools.{cond-case}
 use Rattle.lists.specs.Elements.{AllOf, none, also}
 use Rattle.lists.proofs.Elements.{AnyOf, here, there, Distinct, empty, new, all-map}
-use Rattle.climb.specs.Climb.{climbRadii, Ended, allShort, reachedAt, bisect, climb}
+use Rattle.climb.specs.Climb.{mostCap, mostRadii, climbRadii, Ended, allShort, reachedAt, bisect, climb}
 use Rattle.climb.proofs.Radii.{Steps, climb-steps}
 
 -- ---- what is said of the kilometres probed
@@ -77,7 +77,7 @@ module _ {S F : Type 0} (probed : S → ℕ → S) (latest : S → F) (start : S
     pub ends : s ≡ after kms
     pub within : AllOf (UpTo cap) kms
     pub distinct : Distinct kms
-    pub few : length kms ≤ 28
+    pub few : length kms ≤ mostRadii
 
   module _ (reaches : F → Bool) (cap : ℕ) where
     -- every radius was probed in turn, and fell short, the cap too
@@ -178,7 +178,7 @@ module _ {S F : Type 0} (probed : S → ℕ → S) (latest : S → F) (start : S
           closer x (over k u) = over k u
 
     -- a bracket of one kilometre
-    close : (kms : List ℕ) (low high : ℕ) (f : F) → Bracket kms low high f → low ≡ high → length kms ≤ 28 → EndsReached (after kms) high f
+    close : (kms : List ℕ) (low high : ℕ) (f : F) → Bracket kms low high f → low ≡ high → length kms ≤ mostRadii → EndsReached (after kms) high f
     close kms low high f b e n =
         record {
           trail = kms;
@@ -189,7 +189,7 @@ module _ {S F : Type 0} (probed : S → ℕ → S) (latest : S → F) (start : S
           below = rw (← e) (b .below);
         }
 
-    bisect-ends : (radii : List ℕ) (fuel j : ℕ) (kms : List ℕ) (low high : ℕ) (f : F) → j ≤ fuel → high - low < 2 ^ j → length kms + j ≤ 28
+    bisect-ends : (radii : List ℕ) (fuel j : ℕ) (kms : List ℕ) (low high : ℕ) (f : F) → j ≤ fuel → high - low < 2 ^ j → length kms + j ≤ mostRadii
         → Bracket kms low high f → Ends radii (bisect probed latest reaches fuel (after kms) low high f)
     unfolding bisect after
     bisect-ends radii zero (suc j) kms low high f u w n b = absurd (omega arith)
@@ -265,8 +265,8 @@ module _ {S F : Type 0} (probed : S → ℕ → S) (latest : S → F) (start : S
         (omega (arith, closes .few)) (opened kms km low c l h u))
         (λ u. climb-ends radii rest (suc n) (km ∷ kms) (km + 1) t (omega arith) steps (climbed kms km low c l h u))
 
-    -- WHERE A RUN ENDS, for any cap from 1 to 20,015
-    pub run-ends : 1 ≤ cap → cap ≤ 20015 → Ends (climbRadii cap) (climb probed latest reaches start 0 (climbRadii cap))
+    -- WHERE A RUN ENDS, for any cap from 1 to the largest
+    pub run-ends : 1 ≤ cap → cap ≤ mostCap → Ends (climbRadii cap) (climb probed latest reaches start 0 (climbRadii cap))
     unfolding after findings
     run-ends l h =
         climb-ends (climbRadii cap) (climbRadii cap) 0 [] 0 refl refl (climb-steps cap l h)

@@ -9,19 +9,18 @@ use native.Mathlib.Nat.{two-pow-succ}
 use lib.Dec.{leb, ltb}
 use borrow.Author.Tests.{ltb-true, ltb-false, leb-true, leb-false, lt-ltb, le-ltb}
 use Rattle.lists.proofs.Bools.{cases}
-use Rattle.grid.specs.declared.RadiusKm.{RadiusKm}
-use Rattle.grid.proofs.Body.{ceiling-most}
+use Rattle.grid.specs.declared.Grid.{Grid}
 use Rattle.climb.specs.declared.Bracket.{Bracket}
 use Rattle.climb.specs.Requires.{CanGoOn}
-use Rattle.climb.specs.Climb.{doublings, climbRadii, Ended, allShort, reachedAt, bisect, climb}
+use Rattle.climb.specs.Climb.{mostCap, mostRadii, doublings, climbRadii, Ended, allShort, reachedAt, bisect, climb}
 use Rattle.climb.specs.State.{bracketAt, bracketStart, bracketClosed, nextRadius, bracketNext}
-use Rattle.climb.proofs.Radii.{Steps, climb-steps}
+use Rattle.climb.proofs.Radii.{last-most, Steps, climb-steps}
 
 -- ---- the next bracket, by what the code tests
 
 -- the kilometre after the next radius is at most the ceiling
-pub next-fits : {last : RadiusKm} {c : Bracket} → CanGoOn last c → {km : ℕ} → km ≡ nextRadius c → km + 1 < 2 ^ 32
-next-fits can e = omega (arith, can .within, can .below, ceiling-most (can .grid))
+pub next-fits : {g : Grid} {c : Bracket} → CanGoOn g c → {km : ℕ} → km ≡ nextRadius c → km + 1 < 2 ^ 32
+next-fits {g} can e = omega (arith, can .within, last-most g)
 
 module _ (last : ℕ) (c : Bracket) (r : Bool) (km : ℕ) (k : km ≡ nextRadius c) where
   pub next-reached : r ≡ true → bracketAt (c .low .0) km true ≡ bracketNext last c r
@@ -66,7 +65,7 @@ module _ (cap : ℕ) where
       let least : min (2 ^ n) cap ≡ cap = omega arith in
       rw (least, t, le-ltb cap cap (omega arith)))
 
-  pub from-start : 1 ≤ cap → cap ≤ 20015 → radiiFrom 15 1 ≡ climbRadii cap
+  pub from-start : 1 ≤ cap → cap ≤ mostCap → radiiFrom 15 1 ≡ climbRadii cap
   unfolding climbRadii
   from-start l h =
       let one : min (2 ^ 0) cap ≡ 1 = omega arith in
@@ -90,11 +89,11 @@ pub record Bisecting (cap n fuel low high : ℕ) : Type 0 where
   pub halvings : ℕ
   pub enough : halvings ≤ fuel
   pub narrow : high - low < 2 ^ halvings
-  pub few : n + halvings ≤ 28
+  pub few : n + halvings ≤ mostRadii
 
 pub data Climbing (cap n fuel low high : ℕ) : Type 0 where
   upward : Steps cap n low (radiiFrom cap fuel high) → Climbing cap n fuel low high
-  beyond : low ≡ cap + 1 → high ≡ cap → n ≤ 28 → Climbing cap n fuel low high
+  beyond : low ≡ cap + 1 → high ≡ cap → n ≤ mostRadii → Climbing cap n fuel low high
 
 abbrev pub StageAt : ℕ → ℕ → ℕ → ℕ → ℕ → Bool → Type 0
 StageAt cap n fuel low high true = Bisecting cap n fuel low high
@@ -103,17 +102,17 @@ StageAt cap n fuel low high false = Climbing cap n fuel low high
 abbrev pub Stage : ℕ → ℕ → ℕ → Bracket → Type 0
 Stage cap n fuel c = StageAt cap n fuel (c .low .0) (c .high .0) (c .reached)
 
-pub stage-start : (cap : ℕ) → 1 ≤ cap → cap ≤ 20015 → Stage cap 0 15 bracketStart
+pub stage-start : (cap : ℕ) → 1 ≤ cap → cap ≤ mostCap → Stage cap 0 15 bracketStart
 unfolding bracketStart
 stage-start cap l h = upward (rw (from-start cap l h) (climb-steps cap l h))
 
--- a bracket that is not closed: the next radius, and a probe more is within the 28
-pub stage-open : (cap n fuel : ℕ) (c : Bracket) → Stage cap n fuel c → bracketClosed c ≡ false → (nextRadius c ≤ cap) × (n < 28)
+-- a bracket that is not closed: the next radius, and a probe more is within the most
+pub stage-open : (cap n fuel : ℕ) (c : Bracket) → Stage cap n fuel c → bracketClosed c ≡ false → (nextRadius c ≤ cap) × (n < mostRadii)
 unfolding bracketClosed nextRadius
 stage-open cap n fuel c st o = go (c .low .0) (c .high .0) (c .reached) st o
   where
     go : (low high : ℕ) (r : Bool) → StageAt cap n fuel low high r → cond r (leb high low) (ltb high low) ≡ false
-        → (cond r (low + (high - low) / 2) high ≤ cap) × (n < 28)
+        → (cond r (low + (high - low) / 2) high ≤ cap) × (n < mostRadii)
     go low high true b o =
         let u : low < high = omega (arith, leb-false high low o) in
         let one : 1 ≤ b .halvings = some (b .halvings) (b .narrow) u in
@@ -140,7 +139,7 @@ module _ {S F : Type 0} (probed : S → ℕ → S) (latest : S → F) (reaches :
   unfoldable pub left : ℕ → Bracket → S → F → Ended S F
   left fuel c s found = leftAt fuel (c .low .0) (c .high .0) (c .reached) s found
 
-  pub left-start : 1 ≤ cap → cap ≤ 20015 → (s : S) (found : F) → left 15 bracketStart s found ≡ climb probed latest reaches s 0 (climbRadii cap)
+  pub left-start : 1 ≤ cap → cap ≤ mostCap → (s : S) (found : F) → left 15 bracketStart s found ≡ climb probed latest reaches s 0 (climbRadii cap)
   unfolding left leftAt bracketStart
   left-start l h s found = rw (from-start cap l h)
 
@@ -198,7 +197,7 @@ module _ {S F : Type 0} (probed : S → ℕ → S) (latest : S → F) (reaches :
     unfolding leftAt bisect
     middle-reached t = (halved (b .halvings) (b .enough) (b .narrow) (b .few), rw (lt-ltb low high u, ← at, t))
       where
-        halved : (j : ℕ) → j ≤ suc fuel → high - low < 2 ^ j → n + j ≤ 28 → Bisecting cap (n + 1) fuel low mid
+        halved : (j : ℕ) → j ≤ suc fuel → high - low < 2 ^ j → n + j ≤ mostRadii → Bisecting cap (n + 1) fuel low mid
         halved zero e w k = absurd (omega arith)
         halved (suc j) e w k =
             let p = two-pow-succ j in
@@ -209,7 +208,7 @@ module _ {S F : Type 0} (probed : S → ℕ → S) (latest : S → F) (reaches :
     unfolding leftAt bisect
     middle-short t = (halved (b .halvings) (b .enough) (b .narrow) (b .few), rw (lt-ltb low high u, ← at, t))
       where
-        halved : (j : ℕ) → j ≤ suc fuel → high - low < 2 ^ j → n + j ≤ 28 → Bisecting cap (n + 1) fuel (mid + 1) high
+        halved : (j : ℕ) → j ≤ suc fuel → high - low < 2 ^ j → n + j ≤ mostRadii → Bisecting cap (n + 1) fuel (mid + 1) high
         halved zero e w k = absurd (omega arith)
         halved (suc j) e w k =
             let p = two-pow-succ j in

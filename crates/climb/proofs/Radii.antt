@@ -1,4 +1,4 @@
--- The radii of the climb, for any cap from 1 to 20,015: each leaves a bracket that few halvings close, and the last is the cap.
+-- The radii of the climb, for any cap from 1 to the largest: each leaves a bracket that few halvings close, and the last is the cap.
 use Prim.Native.Nat.{ℕ, zero, suc, _+_, _-_, _*_, _^_, _≤_, _<_}
 use mathlib.Core.Path.{_≡_, refl}
 use mathlib.Core.List.{List, [], _∷_}
@@ -7,21 +7,39 @@ use native.Mathlib.Nat.{two-pow-succ, one-le-pow}
 use lib.Dec.{ltb}
 use borrow.Author.Tests.{ltb-true, ltb-false}
 use Rattle.lists.proofs.Bools.{cond-case}
-use Rattle.climb.specs.Climb.{doublings, climbRadii}
+use Rattle.grid.specs.declared.Grid.{Grid}
+use Rattle.grid.specs.Grid.{ceiling}
+use Rattle.grid.proofs.Body.{ceiling-least, ceiling-most}
+use Rattle.climb.specs.Climb.{lastRadius, mostCap, mostRadii, doublings, climbRadii}
 
--- a bracket of that width is closed by so many halvings, within 15 and within 28 probes in all, n of them gone
+-- ---- the last radius of a climb on a grid
+
+module _ (g : Grid) where
+  pub last-below : lastRadius g + 1 ≡ ceiling g
+  unfolding lastRadius
+  last-below = omega (arith, ceiling-least g)
+
+  pub last-least : 1 ≤ lastRadius g
+  last-least = omega (arith, last-below, ceiling-least g)
+
+  pub last-most : lastRadius g ≤ mostCap
+  last-most = omega (arith, last-below, ceiling-most g)
+
+-- ---- the radii up to it, or to any cap
+
+-- a bracket of that width is closed by so many halvings, within 15 and within the most radii in all, n of them gone
 pub record Closes (n width : ℕ) : Type 0 where
   pub halvings : ℕ
   pub fuel : halvings ≤ 15
-  pub few : n + halvings ≤ 28
+  pub few : n + halvings ≤ mostRadii
   pub enough : width < 2 ^ halvings
 
 -- from n probes gone, the last of them one kilometre below `low`: each radius leaves a bracket that closes, and the last radius is the cap
 abbrev pub Steps : ℕ → ℕ → ℕ → List ℕ → Type 0
-Steps cap n low [] = (low ≡ cap + 1) × (n ≤ 28)
+Steps cap n low [] = (low ≡ cap + 1) × (n ≤ mostRadii)
 Steps cap n low (km ∷ kms) = (low ≤ km) × (km ≤ cap) × Closes (suc n) (km - low) × Steps cap (suc n) (km + 1) kms
 
-steps-from : (cap fuel n : ℕ) → fuel + n ≡ 14 → 2 ^ n + 1 ≤ cap → cap ≤ 20015 → Steps cap (suc n) (2 ^ n + 1) (doublings fuel cap (2 ^ suc n))
+steps-from : (cap fuel n : ℕ) → fuel + n ≡ 14 → 2 ^ n + 1 ≤ cap → cap ≤ mostCap → Steps cap (suc n) (2 ^ n + 1) (doublings fuel cap (2 ^ suc n))
 unfolding doublings
 steps-from cap zero n e l h =
     let k : n ≡ 14 = omega arith in
@@ -44,7 +62,7 @@ steps-from cap (suc fuel) n e l h =
     let u = ltb-false (2 ^ suc n) cap t in
     (omega arith, omega arith, record { halvings = n; fuel = omega arith; few = omega arith; enough = omega arith }, (refl, omega arith)))
 
-pub climb-steps : (cap : ℕ) → 1 ≤ cap → cap ≤ 20015 → Steps cap 0 0 (climbRadii cap)
+pub climb-steps : (cap : ℕ) → 1 ≤ cap → cap ≤ mostCap → Steps cap 0 0 (climbRadii cap)
 unfolding climbRadii doublings
 climb-steps cap l h =
     cond-case (Steps cap 0 0) (ltb 1 cap) _ _

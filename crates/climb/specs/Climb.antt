@@ -3,6 +3,9 @@ use Prim.Native.Nat.{ℕ, zero, suc, _+_, _-_, _*_, _/_}
 use mathlib.Core.Bool.{Bool, cond}
 use mathlib.Core.List.{List, [], _∷_}
 use lib.Dec.{ltb}
+use Rattle.grid.specs.declared.Grid.{Grid}
+use Rattle.grid.specs.Grid.{ceiling}
+use Rattle.grid.specs.Numbers.{earthCeiling}
 
 -- km, then twice that, while below the cap, and then the cap; at most fuel doublings
 unfoldable pub doublings : ℕ → ℕ → ℕ → List ℕ
@@ -14,6 +17,14 @@ doublings (suc fuel) cap km =
 -- 1, 2, 4 .. and last the cap, which is below 2 ^ 15
 unfoldable pub climbRadii : ℕ → List ℕ
 climbRadii cap = doublings 15 cap 1
+
+-- the last radius of a climb on the grid, the kilometre below the ceiling: the ceiling is not probed, since every circle there is the whole grid
+unfoldable pub lastRadius : Grid → ℕ
+lastRadius g = ceiling g - 1
+
+-- the largest cap, the kilometre below the Earth's ceiling: no body is larger
+abbrev pub mostCap : ℕ
+mostCap = earthCeiling - 1
 
 -- where a run ends, S being its state and F what a probe finds: all radii short, or at a radius that reached, with what was found there
 pub data Ended (S F : Type 0) : Type 0 where
@@ -41,7 +52,12 @@ module _ {S F : Type 0} (probed : S → ℕ → S) (latest : S → F) (reaches :
       let further = climb next (km + 1) kms in
       cond (reaches (latest next)) closed further
 
+-- the most radii that a climb and a bisection take: 15 up to 16,384 km and 13 halvings of the 8,192 radii from 8,193 on, or 16 up to 20,015 km
+-- and 12 halvings of the 3,631 radii from 16,385 on
+abbrev pub mostRadii : ℕ
+mostRadii = 28
+
 -- opens all of the above, for facts that are computed
 unfoldable pub open-climbs : Unit {0}
-unfolding doublings climbRadii bisect climb
+unfolding lastRadius doublings climbRadii bisect climb
 open-climbs = tt

@@ -8,6 +8,9 @@ mod next;
 
 use grid::RadiusKm;
 
+// The most radii that a climb and a bisection take, and so the places that a smallest radius asks for in its ledger.
+pub const MOST_RADII: usize = 28;
+
 // Every kilometre below low fell short. While none has reached, high is the next one to probe; afterwards it is the lowest that has.
 pub struct Bracket {
     pub low: RadiusKm,

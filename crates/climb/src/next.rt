@@ -1,11 +1,20 @@
 // The radii of the climb and the bisection, each decided by whether the one before reached.
 use crate::Bracket;
+use grid::Grid;
 use grid::RadiusKm;
 ghost use mathlib.Core.Path.{_≡_};
 ghost use Prim.Native.Nat.{_+_, _-_, _*_, _/_, min};
 ghost use lib.Dec.{ltb};
+ghost use Rattle.climb.specs.Climb.{lastRadius};
 ghost use Rattle.climb.specs.Requires.{CanGoOn};
 ghost use Rattle.climb.specs.State.{bracketStart, bracketClosed, nextRadius, bracketNext};
+
+// The last radius of a climb on the grid: the kilometre below the ceiling.
+fn last_radius(grid: Grid) -> RadiusKm
+    ensures { λ r. ⌜ r .0 ≡ lastRadius grid ⌝ }
+{
+    RadiusKm(grid::ceiling(grid) - 1)
+}
 
 // Twice the kilometre, at most the last one.
 fn doubled(km: RadiusKm, last: RadiusKm) -> RadiusKm
@@ -72,11 +81,10 @@ impl Bracket {
         }
     }
 
-    // What is known after the probe of the next kilometre, where last is the last radius of the climb: no radius is past the one after it,
-    // which is the ceiling.
-    pub fn next(self, last: RadiusKm, reached: bool) -> Bracket
-        requires { ⌜ CanGoOn last self ⌝ }
-        ensures { λ r. ⌜ r ≡ bracketNext (last .0) self reached ⌝ }
+    // What is known after the probe of the next kilometre. No radius is past the grid's ceiling, which is one more than the last of the climb.
+    pub fn next(self, grid: Grid, reached: bool) -> Bracket
+        requires { ⌜ CanGoOn grid self ⌝ }
+        ensures { λ r. ⌜ r ≡ bracketNext (lastRadius grid) self reached ⌝ }
     {
         let low = self.low;
         let high = self.high;
@@ -95,6 +103,7 @@ impl Bracket {
                 reached: true,
             };
         }
+        let last = last_radius(grid);
         Bracket {
             low: RadiusKm(km.0 + 1),
             high: doubled(km, last),

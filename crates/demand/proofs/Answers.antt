@@ -10,21 +10,21 @@ use lib.Ieee.{Float, le}
 use borrow.Author.Tests.{eqb-true, eq-eqb}
 use Rattle.lists.proofs.Bools.{is-true, of-true, of-false, not-both, is-false, and-both, and-left, cond-case}
 use Rattle.lists.specs.Elements.{AllOf, also}
-use Rattle.lists.proofs.Elements.{AnyOf, here, there}
+use Rattle.lists.proofs.Elements.{AnyOf, here, there, any-all}
 use Rattle.floats.specs.Binary.{whole}
 use Rattle.floats.proofs.Order.{le-trans}
 use Rattle.floats.proofs.Whole.{whole-le}
 use Rattle.grid.specs.declared.Cell.{Cell}
 use Rattle.grid.specs.Grid.{ceiling, onGrid}
 use Rattle.grid.specs.Map.{Map}
-use Rattle.grid.proofs.Body.{ceiling-least}
-use Rattle.kernel.specs.Circle.{population}
-use Rattle.bounds.specs.declared.Spacing.{Spacing}
+use Rattle.circle_cells.specs.Circle.{population}
+use Rattle.spacing.specs.declared.Spacing.{Spacing}
 use Rattle.candidates.specs.declared.Candidate.{Candidate}
 use Rattle.candidates.specs.Candidate.{centreOf}
 use Rattle.search.specs.Search.{search}
 use Rattle.ledger.specs.declared.Ledger.{Ledger}
 use Rattle.climb.specs.Climb.{Ended, allShort, reachedAt}
+use Rattle.climb.proofs.Radii.{last-below}
 use Rattle.climb.proofs.Climb.{FoundAt, ShortBelow, UpTo, after-keeps, findings}
 use Rattle.share.specs.Target.{reaches}
 use Rattle.probes.specs.Probes.{Probe, Run, targetPersons, probed, latest, smallestRun, evaluatedIn}
@@ -38,8 +38,7 @@ use Rattle.demand.proofs.Runs.{BestLedger, BestProbe, BestRun, begun, p
 
 -- what was found at a kilometre is the best circle there
 found-best : (m : Map) (km : ℕ) (c : Candidate) (ps : List Probe) → AnyOf (λ p. FoundAt km c (findingOf p)) ps → AllOf (BestProbe m) ps → BestCandidate m km c
-found-best m km c (p ∷ ps) (here f) (also b a) = rw (← f .km-is, ← f .found-is) (b .best)
-found-best m km c (p ∷ ps) (there f) (also b a) = found-best m km c ps f a
+found-best m km c ps s a = any-all (λ p f b. rw (← f .km-is, ← f .found-is) (b .best)) s a
 
 module _ (m : Map) (persons : Float) (km : ℕ) where
   abbrev ShortProbe : Probe → Type 0
@@ -49,15 +48,17 @@ module _ (m : Map) (persons : Float) (km : ℕ) where
   short-all : (ps : List Probe) → AnyOf ShortProbe ps → AllOf (BestProbe m) ps → (x : Cell) → T (onGrid (m .globe .grid) x)
       → T (not (le persons (whole (population m (whole (km - 1)) x))))
   unfolding reaches
-  short-all (p ∷ ps) (here f) (also b a) x o =
+  short-all ps s a x o =
+      any-all
+      (λ p f b.
       let down : km - 1 ≡ p .km = omega (arith, f .km-is) in
       let most : population m (whole (km - 1)) x ≤ p .centre .population = rw (down, b .best .people) (b .best .best .fullest x o) in
       let there = whole (population m (whole (km - 1)) x) in
       let here = whole (p .centre .population) in
       of-false (le persons there)
       (is-false (le persons there)
-      (λ t. not-both (le persons here) (is-true (le persons here) (le-trans persons there here t (whole-le _ _ most))) (f .fell)))
-  short-all (p ∷ ps) (there f) (also b a) x o = short-all ps f a x o
+      (λ t. not-both (le persons here) (is-true (le persons here) (le-trans persons there here t (whole-le _ _ most))) (f .fell))))
+      s a
 
   -- the witness is the first of them
   witnessed : (ps : List Probe) → AnyOf ShortProbe ps → AllOf (BestProbe m) ps → Witnessed m (km - 1) (shortBelow persons km ps)
@@ -94,7 +95,7 @@ module _ (m : Map) (a : Accepted m) (spacing : Spacing) (share : Float) (l : Led
   walked-best r kms w =
       rw (w .ends)
       (after-keeps (probed m spacing) latest (starting l) (BestRun m l) (UpTo (lastKm m))
-      (λ s km h. probed-best m a l spacing searched s km (omega (arith, h, ceiling-least (m .globe .grid)))) (begun m l sound) (w .within))
+      (λ s km h. probed-best m a l spacing searched s km (omega (arith, h, last-below (m .globe .grid)))) (begun m l sound) (w .within))
 
   -- at a radius up to the ceiling
   settled : (r : Run) (kms : List ℕ) (km : ℕ) (c : Candidate) (covers : Bool) → WalkedTo m spacing l r kms → km ≤ ceiling (m .globe .grid)
@@ -119,10 +120,10 @@ module _ (m : Map) (a : Accepted m) (spacing : Spacing) (share : Float) (l : Led
       → SettledRight m l share (traceOf e) (concluded m share e)
   unfolding concluded traceOf
   concluded-right (allShort r) e =
-      let last : lastKm m + 1 ≡ ceiling (m .globe .grid) = omega (arith, ceiling-least (m .globe .grid)) in
+      let last = last-below (m .globe .grid) in
       settled r (e .trail) (ceiling (m .globe .grid)) _ _ (e .walked) (omega arith) (λ u. absurd (omega arith)) (λ u. rw last at (e .below))
   concluded-right (reachedAt r km c) e =
-      settled r (e .trail) km c _ (e .walked) (omega (arith, e .top)) (λ u. (e .held, e .reached)) (λ u. positive u (e .below))
+      settled r (e .trail) km c _ (e .walked) (omega (arith, e .top, last-below (m .globe .grid))) (λ u. (e .held, e .reached)) (λ u. positive u (e .below))
     where
       positive : {A : Type 0} → 1 ≤ km → (km ≡ 0) ⊎ A → A
       positive u (inl z) = absurd (omega arith)

@@ -6,7 +6,7 @@ use Rattle.grid.specs.Map.{Map}
 use Rattle.grid.proofs.Answers.{map-passed}
 use Rattle.grid.proofs.SheetOrder.{in-order}
 use Rattle.grid.proofs.Sizes.{grid-sizes}
-use Rattle.bounds.specs.declared.Spacing.{Spacing}
+use Rattle.spacing.specs.declared.Spacing.{Spacing}
 use Rattle.bounds.specs.Fair.{Fair}
 use Rattle.search.specs.Search.{search}
 use Rattle.search.proofs.Search.{Searched, search-best}

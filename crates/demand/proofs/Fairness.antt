@@ -7,7 +7,8 @@ use Rattle.floats.specs.Binary.{whole}
 use Rattle.grid.specs.Grid.{ceiling}
 use Rattle.grid.specs.Map.{Map}
 use Rattle.grid.proofs.SheetOrder.{InOrder}
-use Rattle.kernel.proofs.Populations.{population-zero, population-total}
+use Rattle.circle_cells.proofs.Populations.{population-zero}
+use Rattle.kernel.proofs.Populations.{population-total}
 use Rattle.bounds.specs.Fair.{Fair}
 use Rattle.bounds.proofs.Bounds.{Bounded, inside-bounded}
 use Rattle.bounds.proofs.Wide.{bound-ceiling}

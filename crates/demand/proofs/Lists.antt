@@ -11,23 +11,24 @@ use Rattle.grid.specs.Grid.{ceiling}
 use Rattle.grid.specs.Map.{Map}
 use Rattle.grid.specs.Answer.{Question, question, firstNo, Answer, answered, refused, decide, after}
 use Rattle.grid.proofs.Answers.{yes-to, after-map, decide-yes, decide-no, not-answered}
-use Rattle.bounds.specs.declared.Spacing.{Spacing}
-use Rattle.bounds.specs.Spacing.{spacingGiven}
+use Rattle.spacing.specs.declared.Spacing.{Spacing}
+use Rattle.spacing.specs.Spacing.{spacingGiven}
 use Rattle.candidates.specs.declared.Candidate.{Candidate}
 use Rattle.search.specs.Search.{search}
-use Rattle.search.specs.Call.{buffersFit}
+use Rattle.most_populous.specs.Call.{buffersFit}
 use Rattle.ledger.specs.declared.Entry.{Entry}
 use Rattle.ledger.specs.declared.Got.the-variants.{Circle, Nothing}
 use Rattle.ledger.specs.declared.Ledger.{Ledger}
 use Rattle.ledger.specs.Ledger.{capacity, entries, find, get, risingFrom, allInBounds, placesFree}
 use Rattle.ledger.proofs.Entries.{there}
 use Rattle.ledger.proofs.Laws.{there-get, get-there, in-order, places-free}
+use Rattle.climb.specs.Climb.{mostRadii}
 use Rattle.share.specs.Target.{shareInRange}
 use Rattle.probes.specs.declared.Smallest.{Smallest}
-use Rattle.probes.specs.Probes.{mostRadii, smallestRun}
+use Rattle.probes.specs.Probes.{smallestRun}
 use Rattle.probes.specs.Smallest.{smallest}
-use Rattle.smallest.specs.Call.{ownQuestions, smallestQuestions, smallestCall}
-use Rattle.smallest.proofs.FewRadii.{few-radii}
+use Rattle.smallest_rules.specs.Call.{ownQuestions, smallestQuestions, smallestCall}
+use Rattle.smallest_rules.proofs.FewRadii.{few-radii}
 use Rattle.demand.specs.Demand3.{Accepted, BestCandidate, Call, called, fresh, ledgerAfter, AnsweredRight, CallRight, EachRight, traceOf, probesOf, callProbes, evaluatedAt, evaluatedBy, evaluatedOf, radiiEvaluated, ListPromise}
 use Rattle.demand.proofs.Runs.{BestLedger}
 use Rattle.demand.proofs.Answers.{SettledRight, smallest-right}

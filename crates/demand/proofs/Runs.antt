@@ -1,31 +1,30 @@
 -- Runs from a ledger of best circles: what every probe keeps of the trace and of the ledger, where the search names the best circle.
 use Prim.Native.Nat.{ℕ, _+_, _^_, _≤_, _<_}
-use mathlib.Core.Path.{_≡_, refl, sym, _∙_}
+use mathlib.Core.Path.{_≡_, refl, _∙_}
 use mathlib.Core.Bool.{Bool, true, false, _&&_, _||_}
 use mathlib.Core.List.{[]}
 use native.Mathlib.Omega.{arith}
 use lib.Dec.{eqb}
 use lib.ListN.{length}
-use borrow.Author.Tests.{eqb-true, lt-ltb, le-leb}
+use borrow.Author.Tests.{lt-ltb, le-leb}
 use Rattle.lists.specs.Counted.{one}
-use Rattle.lists.proofs.Bools.{is-true, cases, and-both, or-none}
+use Rattle.lists.proofs.Bools.{is-true, and-both, or-none}
 use Rattle.lists.specs.Elements.{AllOf, none, also}
 use Rattle.grid.specs.Grid.{ceiling}
 use Rattle.grid.specs.Map.{Map}
 use Rattle.grid.proofs.Answers.{map-passed}
 use Rattle.grid.proofs.Sizes.{grid-sizes}
 use Rattle.kernel.proofs.Populations.{population-exact}
-use Rattle.bounds.specs.declared.Spacing.{Spacing}
+use Rattle.spacing.specs.declared.Spacing.{Spacing}
 use Rattle.candidates.specs.declared.Candidate.{Candidate}
 use Rattle.candidates.specs.Candidate.{centreOf}
 use Rattle.search.specs.Search.{search}
-use Rattle.ledger.specs.declared.Entry.{Entry}
 use Rattle.ledger.specs.declared.Got.{Got}
 use Rattle.ledger.specs.declared.Got.the-variants.{Circle, Nothing}
 use Rattle.ledger.specs.declared.Ledger.{Ledger}
 use Rattle.ledger.specs.Ledger.{entry, entries, get, put, entryInBounds, risingFrom, allInBounds}
 use Rattle.ledger.proofs.Entries.{there}
-use Rattle.ledger.proofs.Laws.{len-put, get-put-same, get-put-other, there-put, length-put, rising-put, in-bounds-put}
+use Rattle.ledger.proofs.Laws.{len-put, got-put, there-put, length-put, rising-put, in-bounds-put}
 use Rattle.probes.specs.Probes.{Probe, Run, reusedAt, searchedAt, probedWith, probed, howMany, evaluatedIn}
 use Rattle.demand.specs.Demand3.{Accepted, BestCandidate, evaluatedAt}
 
@@ -51,25 +50,13 @@ best-in-bounds m a km h c b =
 put-best : (m : Map) → Accepted m → (l : Ledger) (km : ℕ) → km < ceiling (m .globe .grid) → (c : Candidate) → BestCandidate m km c → BestLedger m l
     → BestLedger m (put l (entry km c))
 put-best m a l km h c b s =
+    let x = entry km c in
     record {
       counted = len-put l x;
       rising = rising-put l x (s .rising);
       bounded = in-bounds-put l x (m .globe .grid) (s .bounded) (best-in-bounds m a km h c b);
-      best = best;
+      best = got-put l x (BestCandidate m) b (s .best);
     }
-  where
-    x : Entry
-    x = entry km c
-
-    best : (k : ℕ) (d : Candidate) → get (put l x) k ≡ Circle d → BestCandidate m k d
-    best k d g =
-        cases (eqb km k)
-        (λ e.
-        let same = eqb-true km k e in
-        let gets : Circle c ≡ Circle d = sym (get-put-same l x) ∙ rw (← same) at g in
-        let is : c ≡ d = cc in
-        rw (← same, ← is) b)
-        (λ e. s .best k d (sym (get-put-other l x k e) ∙ g))
 
 -- ---- a run from a ledger
 

@@ -9,11 +9,11 @@ use Rattle.grid.specs.Map.{Map}
 use Rattle.grid.specs.Answer.{firstNo, answered, decide}
 use Rattle.grid.proofs.Answers.{yes-all, yes-to, after-map, decide-yes, decided-yes}
 use Rattle.grid.specs.Questions.{radiusInRange}
-use Rattle.bounds.specs.declared.Spacing.{Spacing}
-use Rattle.bounds.specs.Spacing.{spacingGiven}
+use Rattle.spacing.specs.declared.Spacing.{Spacing}
+use Rattle.spacing.specs.Spacing.{spacingGiven}
 use Rattle.search.specs.declared.MostPopulous.{MostPopulous}
 use Rattle.search.specs.Search.{search}
-use Rattle.search.specs.Call.{Buffers, searchOwn, searchQuestions, searchCall}
+use Rattle.most_populous.specs.Call.{Buffers, searchOwn, searchQuestions, searchCall}
 use Rattle.demand.specs.Demand3.{Accepted, SearchAnswers}
 
 module _ (m : Map) (a : Accepted m) where

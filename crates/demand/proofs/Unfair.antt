@@ -13,17 +13,17 @@ use Rattle.lists.proofs.Bools.{or-split}
 use Rattle.floats.specs.Binary.{whole}
 use Rattle.grid.specs.declared.Cell.{Cell}
 use Rattle.grid.specs.Grid.{cell, onGrid}
-use Rattle.kernel.specs.Circle.{population}
+use Rattle.circle_cells.specs.Circle.{population}
 use Rattle.blocks.specs.Block.{range, block}
 use Rattle.bounds.specs.Fair.{Fair}
 use Rattle.bounds.proofs.FairTest.{every-at}
 use Rattle.search.specs.Ring.{ringGlobe}
-use Rattle.search.proofs.Ring.{ring-open}
+use Rattle.most_populous.proofs.Ring.{ring-call-open}
 use Rattle.demand.specs.Demand3.{Accepted, Best}
 use Rattle.demand.specs.Unfair.{thinRing, Missed}
 
 thin-accepted : Accepted thinRing
-unfolding ring-open thinRing
+unfolding ring-call-open thinRing
 thin-accepted = record { asked = refl; counted = small }
   where
     small : (i : ℕ) → getD (5 ∷ 3 ∷ 2 ∷ 7 ∷ []) i 0 < 2 ^ 32
@@ -35,18 +35,18 @@ thin-accepted = record { asked = refl; counted = small }
 
 -- its rectangle of the columns 2 and 3: column 3 is in its own circle, and not in the wide circle around column 2
 thin-unfair : Fair (thinRing .globe) → ⊥
-unfolding ring-open thinRing
+unfolding ring-call-open thinRing
 thin-unfair fair =
     fair 1 (lit≤ tt) (lit< tt) (block (range 0 0) (range 2 3)) (record { rows = lit≤ tt; south = lit< tt; columns = lit≤ tt; east = lit< tt })
     (cell 0 3) (record { north = lit≤ tt; south = lit≤ tt; first = lit≤ tt; last = lit≤ tt }) (cell 0 3) tt tt
 
 -- every other circle has fewer than 7 people
 thin-others : T (allBelow 1 (λ r. allBelow 4 (λ k. ltb (population thinRing (whole 1) (cell r k)) 7 || eqb k 3)))
-unfolding ring-open thinRing
+unfolding ring-call-open thinRing
 thin-others = tt
 
 seven : population thinRing (whole 1) (cell 0 3) ≡ 7
-unfolding ring-open thinRing
+unfolding ring-call-open thinRing
 seven = refl
 
 thin-case : (x : Cell) → T (onGrid (thinRing .globe .grid) x) → (population thinRing (whole 1) x < 7) ⊎ (x ≡ cell 0 3)
@@ -62,7 +62,7 @@ thin-case x on =
     ]
 
 thin-best : Best thinRing 1 (cell 0 3)
-unfolding ring-open thinRing
+unfolding ring-call-open thinRing
 thin-best =
     record {
       on = tt;
@@ -77,5 +77,5 @@ thin-best =
     }
 
 pub missed : Missed
-unfolding ring-open thinRing
+unfolding ring-call-open thinRing
 missed = record { accepted = thin-accepted; unfair = thin-unfair; named = refl; named-people = refl; best = thin-best; best-people = seven }

@@ -13,28 +13,28 @@ use Rattle.grid.specs.Grid.{ceiling, cells, onGrid}
 use Rattle.grid.specs.Map.{Map}
 use Rattle.grid.specs.Answer.{question, firstNo, Answer, answered, refused, decide}
 use Rattle.grid.specs.Questions.{mapQuestions}
-use Rattle.kernel.specs.Circle.{population}
+use Rattle.circle_cells.specs.Circle.{population}
 use Rattle.candidates.specs.declared.Candidate.{Candidate}
 use Rattle.search.specs.declared.MostPopulous.{MostPopulous}
-use Rattle.bounds.specs.declared.Spacing.{Spacing}
+use Rattle.spacing.specs.declared.Spacing.{Spacing}
 use Rattle.bounds.specs.Fair.{Fair}
 use Rattle.search.specs.Best.{BestOf}
 use Rattle.candidates.specs.Candidate.{centreOf}
 use Rattle.search.specs.Search.{search}
-use Rattle.bounds.specs.Spacing.{spacingGiven}
-use Rattle.search.specs.Call.{Buffers, buffersFit, searchCall}
+use Rattle.spacing.specs.Spacing.{spacingGiven}
+use Rattle.most_populous.specs.Call.{Buffers, buffersFit, searchCall}
 use Rattle.ledger.specs.declared.Entry.{Entry}
 use Rattle.ledger.specs.declared.Ledger.{Ledger}
 use Rattle.ledger.specs.declared.Got.the-variants.{Circle}
 use Rattle.ledger.specs.Ledger.{entries, noEntries, get, risingFrom, placesFree}
-use Rattle.climb.specs.Climb.{Ended, allShort, reachedAt}
+use Rattle.climb.specs.Climb.{mostRadii, Ended, allShort, reachedAt}
 use Rattle.share.specs.Target.{shareInRange}
 use Rattle.probes.specs.declared.ShortBelow.{ShortBelow}
 use Rattle.probes.specs.declared.ShortBelow.the-variants as short-case
 use Rattle.probes.specs.declared.Smallest.{Smallest}
-use Rattle.probes.specs.Probes.{mostRadii, Probe, Run, targetPersons, smallestRun}
+use Rattle.probes.specs.Probes.{Probe, Run, targetPersons, smallestRun}
 use Rattle.probes.specs.Smallest.{smallest}
-use Rattle.smallest.specs.Call.{SmallestOutcome, smallestCall}
+use Rattle.smallest_rules.specs.Call.{SmallestOutcome, smallestCall}
 
 -- ---- the map
 

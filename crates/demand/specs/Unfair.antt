@@ -8,14 +8,15 @@ use Rattle.floats.specs.Binary.{whole}
 use Rattle.grid.specs.Map.{Map}
 use Rattle.grid.specs.Answer.{answered}
 use Rattle.grid.specs.Grid.{cell}
-use Rattle.kernel.specs.Circle.{population}
-use Rattle.bounds.specs.declared.Spacing.the-variants.{Cells}
+use Rattle.circle_cells.specs.Circle.{population}
+use Rattle.spacing.specs.declared.Spacing.the-variants.{Cells}
 use Rattle.bounds.specs.Fair.{Fair}
 use Rattle.candidates.specs.Candidate.{candidateOf}
-use Rattle.levels.specs.Level.{stats, tally}
-use Rattle.search.specs.Call.{searchCall}
+use Rattle.tally.specs.Counts.{stats, tally}
+use Rattle.most_populous.specs.Call.{searchCall}
 use Rattle.search.specs.Search.{mostPopulous}
-use Rattle.search.specs.Ring.{ringGlobe, ringBuffers}
+use Rattle.search.specs.Ring.{ringGlobe}
+use Rattle.most_populous.specs.Ring.{ringBuffers}
 use Rattle.demand.specs.Demand3.{Accepted, Best}
 
 -- the ring of four cells with the cosine 2 ^ -30, as if its one row stood at a pole: wide circles are hardly wider

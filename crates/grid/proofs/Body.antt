@@ -2,12 +2,13 @@
 use Prim.Native.Nat.{_≤_}
 use native.Mathlib.Omega.{arith}
 use Rattle.grid.specs.declared.Grid.{Grid}
+use Rattle.grid.specs.Numbers.{earthCeiling}
 use Rattle.grid.specs.Grid.{ceiling}
 
 pub ceiling-least : (g : Grid) → 2 ≤ ceiling g
 unfolding ceiling
 ceiling-least g = omega arith
 
-pub ceiling-most : (g : Grid) → ceiling g ≤ 20016
+pub ceiling-most : (g : Grid) → ceiling g ≤ earthCeiling
 unfolding ceiling
 ceiling-most g = omega arith

@@ -6,7 +6,6 @@ pub mod Distance
 pub mod Found
 pub mod General
 pub mod Index
-pub mod Literals
 pub mod Radii
 pub mod SheetOrder
 pub mod Sizes

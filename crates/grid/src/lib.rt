@@ -1,6 +1,5 @@
 // Rows, columns, cells and whole-kilometre radii, each a type of its own, and the grid that holds them.
 mod places;
-mod questions;
 
 pub use places::HALF_TURN;
 pub use places::angle_of;
@@ -12,12 +11,6 @@ pub use places::cells;
 pub use places::closing;
 pub use places::on_grid;
 pub use places::sheet_index;
-pub use questions::columns_close;
-pub use questions::counts_complete;
-pub use questions::grid_refusal;
-pub use questions::latitudes_in_range;
-pub use questions::sheet_complete;
-pub use questions::sizes_in_range;
 ghost use mathlib.Core.Path.{_≡_};
 ghost use Rattle.grid.specs.Grid.{rowFound, colFound, radiusFound, centreLat};
 

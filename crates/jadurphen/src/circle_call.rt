@@ -7,8 +7,8 @@ use grid::Row;
 ghost use mathlib.Core.Path.{_≡_};
 ghost use Rattle.grid.specs.Grid.{cell};
 ghost use Rattle.grid.specs.Map.{lentMap};
-ghost use Rattle.jadurphen.specs.Crossing.{gridFrom};
-ghost use Rattle.jadurphen.specs.Calls.{circleReturned, circleCrossing};
+ghost use Rattle.crossings.specs.Crossing.{gridFrom};
+ghost use Rattle.crossings.specs.Calls.{circleReturned, circleCrossing};
 
 // Declared in include/jadurphen.h: the population of a circle.
 #[no_mangle]

@@ -11,8 +11,8 @@ ghost use mathlib.Core.Path.{_≡_};
 ghost use Rattle.grid.specs.Grid.{cell};
 ghost use Rattle.candidates.specs.Candidate.{candidateOf};
 ghost use Rattle.ledger.specs.Ledger.{entry};
-ghost use Rattle.jadurphen.specs.Crossing.{gridFrom};
-ghost use Rattle.jadurphen.specs.Calls.{putReturned, putCrossing};
+ghost use Rattle.crossings.specs.Crossing.{gridFrom};
+ghost use Rattle.crossings.specs.Calls.{putReturned, putCrossing};
 
 // Declared in include/jadurphen.h: an entry put into the ledger.
 #[no_mangle]

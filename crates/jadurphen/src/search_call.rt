@@ -1,45 +1,12 @@
 // The search call.
-use bounds::Spacing;
 use grid::Grid;
-use search::MostPopulous;
-use search::SearchAnswer;
+use most_populous::SearchAnswer;
+use spacing::Spacing;
 ghost use mathlib.Core.Path.{_≡_};
 ghost use Rattle.grid.specs.Map.{lentMap};
-ghost use Rattle.search.specs.Call.{buffers};
-ghost use Rattle.jadurphen.specs.Crossing.{gridFrom, spacingFrom};
-ghost use Rattle.jadurphen.specs.Calls.{searchWords, searchReturned, searchCrossing};
-
-// The spacing of the flag and the number that cross in its place.
-pub(crate) fn spacing_from(automatic: bool, cells: u32) -> Spacing
-    ensures { λ r. ⌜ r ≡ spacingFrom automatic cells ⌝ }
-{
-    if automatic {
-        Spacing::Automatic
-    } else {
-        Spacing::Cells(cells)
-    }
-}
-
-// An answer's words, in the order of the header.
-fn search_words(found: MostPopulous) -> [u64; 10]
-    ensures { λ r. ⌜ r ≡ searchWords found ⌝ }
-{
-    let centre = found.centre;
-    let tally = found.tally;
-    let stats = tally.stats;
-    [
-        centre.row.0 as u64,
-        centre.col.0 as u64,
-        centre.population,
-        stats.levels as u64,
-        stats.blocks_examined,
-        stats.blocks_pruned,
-        stats.circles_evaluated,
-        stats.kernels_built,
-        tally.cells_pruned,
-        tally.cells_settled,
-    ]
-}
+ghost use Rattle.most_populous.specs.Call.{buffers};
+ghost use Rattle.crossings.specs.Crossing.{gridFrom, spacingFrom};
+ghost use Rattle.crossings.specs.Calls.{searchReturned, searchCrossing};
 
 // Declared in include/jadurphen.h: the most populous circle of a radius, as words, and the tolerance in persons.
 #[no_mangle]
@@ -74,8 +41,8 @@ pub extern "C" fn jadurphen_search(
         lon_step,
         lat_step,
     };
-    let side = spacing_from(automatic, spacing);
-    let answer = search::most_populous(
+    let side = crossings::spacing_from(automatic, spacing);
+    let answer = most_populous::most_populous(
         grid,
         counts,
         angles,
@@ -88,7 +55,7 @@ pub extern "C" fn jadurphen_search(
     );
     match answer {
         SearchAnswer::Found(found) => {
-            *words = search_words(found);
+            *words = crossings::search_words(found);
             *tolerance = found.tolerance_persons;
             0
         }

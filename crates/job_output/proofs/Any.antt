@@ -11,7 +11,7 @@ use Rattle.ledger.specs.declared.Ledger.{Ledger}
 use Rattle.ledger.specs.State.{freshLedger}
 use Rattle.job_lines.specs.Line.{refusedLine, mostLine, leastLine, longestLine}
 use Rattle.job_world.specs.World.{State, empty}
-use Rattle.job_step.specs.Job.{Step, step, linesFrom, job, mostBytes, program}
+use Rattle.job_rules.specs.Job.{Step, step, linesFrom, job, mostBytes, program}
 use Rattle.job_lines.proofs.Lengths.{length-refused, length-most, length-least}
 use Rattle.job_output.specs.Output.{printedInto, Output, outputOf, output}
 use Rattle.job_output.specs.Lines.{Lines, nothing, refusal, most, least, perByte, mostOutput, AnyJob}

@@ -8,7 +8,7 @@ use borrow.Author.Tests.{lt-ltb, le-ltb}
 use lib.ListN.{length, drop}
 use Rattle.ledger.specs.State.{freshLedger}
 use Rattle.job_lines.specs.declared.Line.{Line}
-use Rattle.job_step.specs.declared.StepResult.{StepResult}
+use Rattle.job_rules.specs.declared.StepResult.{StepResult}
 use Rattle.job_lines.specs.State.{lineRoom, textOf, lineOf}
 use Rattle.job_lines.proofs.Texts.{text-line}
 use Rattle.job_lines.specs.Line.{refusedLine}
@@ -16,9 +16,9 @@ use Rattle.job_world.specs.declared.JobState.{JobState}
 use Rattle.job_world.specs.World.{State}
 use Rattle.job_world.specs.State.{stateOf, startState}
 use Rattle.job_world.proofs.Maps.{states-seen}
-use Rattle.job_step.specs.Job.{next, ended, stepAfter, step, linesFrom, job, mostBytes, program}
-use Rattle.job_step.specs.State.{stepOf, steppedIn}
-use Rattle.job_step.proofs.Seen.{steps-seen}
+use Rattle.job_rules.specs.Job.{next, ended, stepAfter, step, linesFrom, job, mostBytes, program}
+use Rattle.job_rules.specs.State.{stepOf, steppedIn}
+use Rattle.job_rules.proofs.Seen.{steps-seen}
 use Rattle.job_output.specs.Output.{printedInto, Output, outputOf, output}
 use Rattle.job_output.specs.State.{added}
 use Rattle.job_output.proofs.Written.{added-written}

@@ -14,15 +14,15 @@ use Rattle.grid.specs.declared.Row.{Row}
 use Rattle.grid.specs.Answer.{Answer, answered, refused, decide}
 use Rattle.search.specs.declared.MostPopulous.{MostPopulous}
 use Rattle.probes.specs.declared.Smallest.{Smallest}
-use Rattle.smallest.specs.Call.{SmallestOutcome}
+use Rattle.smallest_rules.specs.Call.{SmallestOutcome}
 use Rattle.grid.specs.Map.{Map}
 use Rattle.job_commands.specs.declared.Command.{Command}
 use Rattle.job_commands.specs.declared.Command.the-variants.{SetGrid, SetCount, SetCosine, SetAngle, Most, Least, End}
 use Rattle.job_commands.specs.Command.{Decoding, command, malformed, setGridOf, setCountOf, setCosineOf, setAngleOf, mostOf, leastOf, withOperands, endOf, decodeAs, decode}
 use Rattle.job_lines.specs.Line.{refusedLine, mostLine, leastLine}
 use Rattle.job_world.specs.World.{World, State, empty, begun}
-use Rattle.job_step.specs.Apply.{Done, mostDone, leastDone, placed, inWorld, first, apply, settle, applied}
-use Rattle.job_step.specs.Job.{Step, next, ended, stepAfter, stepWith, step}
+use Rattle.job_rules.specs.Apply.{Done, mostDone, leastDone, placed, inWorld, first, apply, settle, applied}
+use Rattle.job_rules.specs.Job.{Step, next, ended, stepAfter, stepWith, step}
 
 -- ---- what a command of so many operand bytes gives: only M and R print and go on, and M has 4
 

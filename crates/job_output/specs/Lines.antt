@@ -8,7 +8,7 @@ use Rattle.ledger.specs.declared.Ledger.{Ledger}
 use Rattle.probes.specs.declared.Smallest.{Smallest}
 use Rattle.job_lines.specs.Line.{refusedLine, mostLine, leastLine, longestLine}
 use Rattle.job_world.specs.World.{empty}
-use Rattle.job_step.specs.Job.{linesFrom, job, mostBytes, program}
+use Rattle.job_rules.specs.Job.{linesFrom, job, mostBytes, program}
 use Rattle.job_output.specs.Output.{printedInto}
 
 -- whole lines: answers, and at most one refusal, the last

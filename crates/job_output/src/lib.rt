@@ -5,7 +5,7 @@ ghost use Prim.Native.Nat.{_+_, _≤_, _<_, _^_};
 ghost use lib.ListN.{length, set};
 ghost use Rattle.ledger.specs.State.{freshLedger};
 ghost use Rattle.job_lines.specs.State.{lineRoom, textOf};
-ghost use Rattle.job_step.specs.Job.{job, mostBytes, program};
+ghost use Rattle.job_rules.specs.Job.{job, mostBytes, program};
 ghost use Rattle.job_output.specs.Output.{outputOf, output};
 ghost use Rattle.job_output.specs.State.{added};
 

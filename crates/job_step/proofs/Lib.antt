@@ -1,5 +1,1 @@
-pub mod Commands
 pub mod Lent
-pub mod Stepping
-pub mod Seen
-pub mod Ring

@@ -1,18 +1,19 @@
 // The two calls of a job, M and R: the map's part of each array is lent to them, with buffers of their own.
-use crate::Applied;
 use crate::change;
-use bounds::Spacing;
+use job_rules::Applied;
 use job_world::JobState;
-use search::SearchAnswer;
-use smallest::SmallestAnswer;
-use smallest::SmallestResult;
+use most_populous::SearchAnswer;
+use smallest_rules::SmallestAnswer;
+use smallest_rules::SmallestResult;
+use spacing::Spacing;
 ghost use mathlib.Core.Path.{_≡_};
-ghost use Rattle.search.specs.Call.{searchAnswer, searchCall};
-ghost use Rattle.smallest.specs.Call.{smallestCall};
+ghost use Rattle.smallest_rules.specs.Call.{smallestCall};
+ghost use Rattle.most_populous.specs.Call.{searchAnswer, searchCall};
 ghost use Rattle.job_commands.specs.declared.Command.the-variants.{Most, Least};
 ghost use Rattle.job_world.specs.State.{jobMap};
-ghost use Rattle.job_step.specs.Apply.{jobSpacing, jobBuffers};
-ghost use Rattle.job_step.specs.State.{IsLeast, appliedIn};
+ghost use Rattle.job_rules.specs.Apply.{jobSpacing, jobBuffers};
+ghost use Rattle.job_rules.specs.State.{laterIn};
+ghost use Rattle.job_step.specs.State.{IsLeast};
 
 // A spacing of 0 is automatic.
 fn spacing_of(spacing: u32) -> Spacing
@@ -32,14 +33,15 @@ fn most_of(state: JobState, spacing: u32, km: u32) -> SearchAnswer
     let counts = state.counts;
     let angles = state.angles;
     let cosines = state.cosines;
-    let n = job_world::count_places(grid);
-    let k = job_world::angle_places(grid);
-    let h = job_world::cosine_places(grid);
-    let mut sums = [0u64; JobState::SUMS];
-    let mut current = [0u64; JobState::CELLS];
-    let mut following = [0u64; JobState::CELLS];
+    let places = job_sizes::places_of(grid);
+    let n = places.counts;
+    let k = places.angles;
+    let h = places.cosines;
+    let mut sums = [0u64; job_sizes::SUMS];
+    let mut current = [0u64; job_sizes::CELLS];
+    let mut following = [0u64; job_sizes::CELLS];
     let side = spacing_of(spacing);
-    search::most_populous(
+    most_populous::most_populous(
         grid,
         &counts[..n],
         &angles[..k],
@@ -53,13 +55,9 @@ fn most_of(state: JobState, spacing: u32, km: u32) -> SearchAnswer
 }
 
 // M: the most populous circle's line.
-pub fn run_most(state: JobState, spacing: u32, km: u32) -> Applied
-    ensures { λ r. ⌜ r ≡ appliedIn state (Most spacing km) ⌝ }
+pub(crate) fn run_most(state: JobState, spacing: u32, km: u32) -> Applied
+    ensures { λ r. ⌜ r ≡ laterIn state (Most spacing km) ⌝ }
 {
-    let begun = state.begun;
-    if !begun {
-        return change::refuse(state, 14);
-    }
     match most_of(state, spacing, km) {
         SearchAnswer::Found(found) => change::go_on(state, job_lines::most_line(found)),
         SearchAnswer::Refused(number) => change::refuse(state, number),
@@ -75,12 +73,13 @@ fn least_of(state: JobState, spacing: u32, share: f64) -> SmallestResult
     let angles = state.angles;
     let cosines = state.cosines;
     let ledger = state.ledger;
-    let n = job_world::count_places(grid);
-    let k = job_world::angle_places(grid);
-    let h = job_world::cosine_places(grid);
-    let mut sums = [0u64; JobState::SUMS];
-    let mut current = [0u64; JobState::CELLS];
-    let mut following = [0u64; JobState::CELLS];
+    let places = job_sizes::places_of(grid);
+    let n = places.counts;
+    let k = places.angles;
+    let h = places.cosines;
+    let mut sums = [0u64; job_sizes::SUMS];
+    let mut current = [0u64; job_sizes::CELLS];
+    let mut following = [0u64; job_sizes::CELLS];
     let side = spacing_of(spacing);
     smallest::smallest_radius(
         grid,
@@ -97,13 +96,9 @@ fn least_of(state: JobState, spacing: u32, share: f64) -> SmallestResult
 }
 
 // R: the smallest radius's line, and the ledger as the call leaves it, so that a later R need not search its radii again.
-pub fn run_least(state: JobState, spacing: u32, share: f64) -> Applied
-    ensures { λ r. ⌜ r ≡ appliedIn state (Least spacing share) ⌝ }
+pub(crate) fn run_least(state: JobState, spacing: u32, share: f64) -> Applied
+    ensures { λ r. ⌜ r ≡ laterIn state (Least spacing share) ⌝ }
 {
-    let begun = state.begun;
-    if !begun {
-        return change::refuse(state, 14);
-    }
     let result = least_of(state, spacing, share);
     let answer = result.answer;
     let ledger = result.ledger;

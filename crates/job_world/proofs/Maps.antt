@@ -12,11 +12,10 @@ use Rattle.floats.specs.Binary.{whole}
 use Rattle.lists.proofs.Bools.{cases, and-left, and-right}
 use Rattle.lists.proofs.Sums.{times-le}
 use Rattle.grid.specs.declared.Grid.{Grid}
-use Rattle.grid.specs.declared.Row.{Row}
 use Rattle.grid.specs.Grid.{cells, closing, angleCount}
 use Rattle.grid.specs.Map.{sheetIndex}
-use Rattle.job_world.proofs.Fronts.{held-within, held-beyond}
-use Rattle.job_world.specs.World.{jobColumns, jobRows, jobCells, jobAngles, sizeTaken, emptyMap, withMap, withCount, withCosine, withAngle}
+use Rattle.job_sizes.specs.Sizes.{jobColumns, jobRows, jobCells, jobAngles, sizeTaken}
+use Rattle.job_world.specs.World.{emptyMap, withMap, withCount, withCosine, withAngle}
 use Rattle.job_world.specs.State.{jobMap, worldOf, stateOf, startState, gridState, countState, cosineState, angleState, ledgerState, StatesSeen}
 
 module _ {A : Type 0} where
@@ -77,30 +76,3 @@ states-seen =
       angle = λ s centre row offset x. rw (take-set (angleCount (s .grid)) (s .angles) (sheetIndex (s .grid) centre row offset) x);
       ledger = λ s l. refl;
     }
-
--- ---- the place of an angle, at most jobAngles
-
-beyond : (p q k : ℕ) → jobAngles ≤ p → jobAngles ≡ min (p * (q + 1) + k) jobAngles
-beyond p q k h = omega (arith, times-le 1 (q + 1) 1 (q + 1) (omega arith) (omega arith), times-le jobAngles 1 p (q + 1) h (omega arith))
-
-module _ (g : Grid) (centre row : Row) (offset : ℕ) where
-  pub pair-beyond : jobAngles ≤ centre .0 * g .height + row .0 → jobAngles ≡ min (sheetIndex g centre row offset) jobAngles
-  unfolding sheetIndex
-  pair-beyond h = beyond (centre .0 * g .height + row .0) (closing g) offset h
-
-  module _ (q : ℕ) (e : q ≡ closing g) where
-    unfoldable place : ℕ
-    place = (centre .0 * g .height + row .0) * (q + 1) + offset
-
-    is-place : place ≡ sheetIndex g centre row offset
-    unfolding sheetIndex place
-    is-place = rw e
-
-    pub angle-within : (centre .0 * g .height + row .0) * (q + 1) + offset < jobAngles
-        → (centre .0 * g .height + row .0) * (q + 1) + offset ≡ min (sheetIndex g centre row offset) jobAngles
-    unfolding place
-    angle-within h = held-within place (sheetIndex g centre row offset) jobAngles is-place h
-
-    pub angle-beyond : jobAngles ≤ (centre .0 * g .height + row .0) * (q + 1) + offset → jobAngles ≡ min (sheetIndex g centre row offset) jobAngles
-    unfolding place
-    angle-beyond h = held-beyond place (sheetIndex g centre row offset) jobAngles is-place h

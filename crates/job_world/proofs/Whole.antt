@@ -5,7 +5,7 @@ use lib.ListN.{length, length-map}
 use mir.Val.{Val}
 use denote.Laws.{Is}
 use Rattle.job_world.specs.declared.JobState.{JobState}
-use Rattle.job_world.specs.World.{jobRows, jobCells, jobAngles}
+use Rattle.job_sizes.specs.Sizes.{jobRows, jobCells, jobAngles}
 use Rattle.job_world.proofs.JobState as S
 
 pub counts-whole : (s : JobState) (vs : List Val) → Is S.the-row s vs → length (s .counts) ≡ jobCells

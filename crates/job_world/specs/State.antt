@@ -13,7 +13,8 @@ use Rattle.grid.specs.Map.{Map, lentMap, sheetIndex}
 use Rattle.ledger.specs.declared.Ledger.{Ledger}
 use Rattle.ledger.specs.State.{freshLedger}
 use Rattle.job_world.specs.declared.JobState.{JobState}
-use Rattle.job_world.specs.World.{World, world, State, empty, begun, jobRows, jobCells, jobAngles, sizeTaken, emptyMap, emptied, withMap, withCount, withCosine, withAngle}
+use Rattle.job_sizes.specs.Sizes.{jobRows, jobCells, jobAngles, sizeTaken}
+use Rattle.job_world.specs.World.{World, world, State, empty, begun, emptyMap, emptied, withMap, withCount, withCosine, withAngle}
 
 -- ---- what is seen of it
 

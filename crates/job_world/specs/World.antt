@@ -1,21 +1,16 @@
 -- The world under way in a job: a map and its ledger, and what is set in it.
-use Prim.Native.Nat.{ℕ, _+_, _*_, _/_}
-use mathlib.Core.Bool.{Bool, cond, _&&_}
-use lib.Dec.{leb, ltb}
+use Prim.Native.Nat.{ℕ, _+_, _*_}
 use lib.Ieee.{Float}
 use lib.ListN.{set, replicate}
 use Rattle.floats.specs.Binary.{whole}
 use Rattle.grid.specs.declared.Cell.{Cell}
 use Rattle.grid.specs.declared.Grid.{Grid}
 use Rattle.grid.specs.declared.Row.{Row}
-use Rattle.grid.specs.Grid.{onGrid, cells, closing, angleCount}
+use Rattle.grid.specs.Grid.{cells, angleCount}
 use Rattle.grid.specs.Map.{Map, lentMap, sheetIndex}
 use Rattle.ledger.specs.declared.Ledger.{Ledger}
 use Rattle.ledger.specs.Ledger.{noEntries}
-use Rattle.job_world.specs.declared.CellFound.{CellFound}
-use Rattle.job_world.specs.declared.CellFound.the-variants as cell-found
-use Rattle.job_world.specs.declared.AngleFound.{AngleFound}
-use Rattle.job_world.specs.declared.AngleFound.the-variants as angle-found
+use Rattle.job_sizes.specs.Sizes.{open-sizes}
 
 -- a map under way, and its ledger
 pub record World : Type 0 where
@@ -29,28 +24,6 @@ world m l = record { map = m; ledger = l }
 pub data State : Type 0 where
   empty : Ledger → State
   begun : World → State
-
--- ---- the largest grid that a job takes
-
-abbrev pub jobColumns : ℕ
-jobColumns = 24
-
-abbrev pub jobRows : ℕ
-jobRows = 12
-
--- and what its map has: counts, angles, and words of its sums
-abbrev pub jobCells : ℕ
-jobCells = jobColumns * jobRows
-
-abbrev pub jobAngles : ℕ
-jobAngles = jobRows * jobRows * (jobColumns / 2 + 1)
-
-abbrev pub jobSums : ℕ
-jobSums = (jobColumns + 1) * (jobRows + 1)
-
--- a grid that a job takes
-unfoldable pub sizeTaken : Grid → Bool
-sizeTaken g = leb (g .width) jobColumns && leb (g .height) jobRows
 
 -- ---- G: a map with nothing set
 
@@ -81,21 +54,7 @@ withAngle m centre row offset x =
     let g = m .globe .grid in
     lentMap g (m .counts) (set (m .globe .angles) (sheetIndex g centre row offset) x) (m .globe .cosines)
 
--- the indices that are on the grid: of K a row, of A two rows and an offset up to closing
-unfoldable pub rowOn : Grid → Row → Bool
-rowOn g row = ltb (row .0) (g .height)
-
-unfoldable pub angleOn : Grid → Row → Row → ℕ → Bool
-angleOn g centre row offset = rowOn g centre && rowOn g row && leb offset (closing g)
-
--- the cell of C, and the rows and the offset of A, where they are
-unfoldable pub cellFound : Grid → Cell → CellFound
-cellFound g x = cond (onGrid g x) (cell-found.On x) cell-found.Off
-
-unfoldable pub angleFound : Grid → Row → Row → ℕ → AngleFound
-angleFound g centre row offset = cond (angleOn g centre row offset) (angle-found.On centre row offset) angle-found.Off
-
--- opens all of the above, for facts that are computed
+-- opens all of the above and the sizes, for facts that are computed
 unfoldable pub open-worlds : Unit {0}
-unfolding sizeTaken emptyMap emptied withMap withCount withCosine withAngle rowOn angleOn cellFound angleFound
+unfolding open-sizes emptyMap emptied withMap withCount withCosine withAngle
 open-worlds = tt

@@ -5,30 +5,29 @@ use grid::Grid;
 use grid::Row;
 use ledger::Ledger;
 ghost use mathlib.Core.Path.{_≡_};
-ghost use Prim.Native.Nat.{_+_, _*_, min};
 ghost use lib.ListN.{set, replicate};
 ghost use Rattle.floats.specs.Binary.{whole};
-ghost use Rattle.grid.specs.Map.{sheetIndex};
-ghost use Rattle.job_world.specs.World.{jobRows, jobCells, jobAngles, emptied};
+ghost use Rattle.job_sizes.specs.Sizes.{jobRows, jobCells, jobAngles};
+ghost use Rattle.job_world.specs.World.{emptied};
 ghost use Rattle.job_world.specs.State.{startState, gridState, countState, cosineState, angleState, ledgerState};
 
 // What is not set: counts and angles of 0, cosines of 1.
-fn zero_counts() -> [u32; JobState::CELLS]
+fn zero_counts() -> [u32; job_sizes::CELLS]
     ensures { λ r. ⌜ r ≡ replicate jobCells 0 ⌝ }
 {
-    [0u32; JobState::CELLS]
+    [0u32; job_sizes::CELLS]
 }
 
-fn zero_angles() -> [f64; JobState::ANGLES]
+fn zero_angles() -> [f64; job_sizes::ANGLES]
     ensures { λ r. ⌜ r ≡ replicate jobAngles (whole 0) ⌝ }
 {
-    [0.0f64; JobState::ANGLES]
+    [0.0f64; job_sizes::ANGLES]
 }
 
-fn unit_cosines() -> [f64; JobState::ROWS as usize]
+fn unit_cosines() -> [f64; job_sizes::ROWS as usize]
     ensures { λ r. ⌜ r ≡ replicate jobRows (whole 1) ⌝ }
 {
-    [1.0f64; JobState::ROWS as usize]
+    [1.0f64; job_sizes::ROWS as usize]
 }
 
 // The state before any command.
@@ -84,10 +83,10 @@ pub fn with_grid(ledger: Ledger, grid: Grid) -> JobState
 }
 
 // A place beyond the array holds nothing.
-fn put_count(counts: [u32; JobState::CELLS], place: usize, count: u32) -> [u32; JobState::CELLS]
+fn put_count(counts: [u32; job_sizes::CELLS], place: usize, count: u32) -> [u32; job_sizes::CELLS]
     ensures { λ r. ⌜ r ≡ set counts place count ⌝ }
 {
-    if JobState::CELLS <= place {
+    if job_sizes::CELLS <= place {
         return counts;
     }
     let mut next = counts;
@@ -95,10 +94,10 @@ fn put_count(counts: [u32; JobState::CELLS], place: usize, count: u32) -> [u32; 
     next
 }
 
-fn put_angle(angles: [f64; JobState::ANGLES], place: usize, angle: f64) -> [f64; JobState::ANGLES]
+fn put_angle(angles: [f64; job_sizes::ANGLES], place: usize, angle: f64) -> [f64; job_sizes::ANGLES]
     ensures { λ r. ⌜ r ≡ set angles place angle ⌝ }
 {
-    if JobState::ANGLES <= place {
+    if job_sizes::ANGLES <= place {
         return angles;
     }
     let mut next = angles;
@@ -107,41 +106,18 @@ fn put_angle(angles: [f64; JobState::ANGLES], place: usize, angle: f64) -> [f64;
 }
 
 fn put_cosine(
-    cosines: [f64; JobState::ROWS as usize],
+    cosines: [f64; job_sizes::ROWS as usize],
     place: u32,
     cosine: f64,
-) -> [f64; JobState::ROWS as usize]
+) -> [f64; job_sizes::ROWS as usize]
     ensures { λ r. ⌜ r ≡ set cosines place cosine ⌝ }
 {
-    if JobState::ROWS <= place {
+    if job_sizes::ROWS <= place {
         return cosines;
     }
     let mut next = cosines;
     next[place as usize] = cosine;
     next
-}
-
-// The place of a cell's count, row by row.
-fn count_place(grid: Grid, cell: Cell) -> usize
-    ensures { λ r. ⌜ r ≡ cell .row .0 * grid .width + cell .col .0 ⌝ }
-{
-    cell.row.0 as usize * grid.width as usize + cell.col.0 as usize
-}
-
-// The place in the sheet, or the array's length for any place beyond it.
-fn angle_place(grid: Grid, centre: Row, row: Row, offset: u32) -> usize
-    ensures { λ r. ⌜ r ≡ min (sheetIndex grid centre row offset) jobAngles ⌝ }
-{
-    let pair = centre.0 as usize * grid.height as usize + row.0 as usize;
-    if JobState::ANGLES <= pair {
-        return JobState::ANGLES;
-    }
-    let place = pair * (grid::closing(grid) as usize + 1) + offset as usize;
-    if place < JobState::ANGLES {
-        place
-    } else {
-        JobState::ANGLES
-    }
 }
 
 // The state after C, a map under way whatever the state was: that a job has begun is the caller's test. The ledger is
@@ -154,7 +130,7 @@ pub fn with_count(state: JobState, cell: Cell, count: u32) -> JobState
     let ledger = state.ledger;
     let mut next = state;
     next.begun = true;
-    let changed = put_count(counts, count_place(grid, cell), count);
+    let changed = put_count(counts, job_sizes::count_place(grid, cell), count);
     next.counts = changed;
     next.ledger = emptied(ledger);
     next
@@ -183,7 +159,11 @@ pub fn with_angle(state: JobState, centre: Row, row: Row, offset: u32, angle: f6
     let ledger = state.ledger;
     let mut next = state;
     next.begun = true;
-    let changed = put_angle(angles, angle_place(grid, centre, row, offset), angle);
+    let changed = put_angle(
+        angles,
+        job_sizes::angle_place(grid, centre, row, offset),
+        angle,
+    );
     next.angles = changed;
     next.ledger = emptied(ledger);
     next

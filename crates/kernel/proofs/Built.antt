@@ -1,21 +1,28 @@
 -- The kernel that the walks and the marking of runs leave is the kernel of the row and the radius.
 use Prim.Native.Nat.{ℕ, _-_, _≤_, _<_}
 use mathlib.Core.Path.{_≡_, sym, _∙_}
-use mathlib.Core.Bool.{true, false}
+use mathlib.Core.Bool.{Bool, true, false}
 use mathlib.Core.List.{List}
 use mathlib.Core.Logic.{_⊎_, inl, inr}
 use native.Mathlib.Decide.{decLt}
 use native.Mathlib.Omega.{arith}
 use lib.ListN.{length, getD, replicate, length-replicate, getD-replicate, List·getD-eq-default}
-use lib.Ieee.{Float, eq}
+use lib.Ieee.{Float, binary64, ofBits, eq}
 use Rattle.floats.specs.Binary.{whole}
+use Rattle.floats.proofs.Literals.{literal-0}
 use Rattle.grid.specs.declared.Row.{Row}
 use Rattle.grid.specs.Grid.{angleOf}
 use Rattle.grid.specs.Map.{Globe}
-use Rattle.kernel.specs.Kernel.{rowReach, rowPlaces, runEnd, rowRun, kernelOf}
-use Rattle.kernel.specs.State.{Filled, NorthWalked, SouthWalked, reachIn, runIn}
+use Rattle.kernel.specs.Kernel.{rowReach, runEnd, rowRun, kernelOf}
+use Rattle.reach.specs.Reach.{rowPlaces}
+use Rattle.reach.specs.State.{Filled, NorthWalked, SouthWalked, reachIn}
+use Rattle.kernel.specs.State.{runIn}
 use Rattle.kernel.specs.Requires.{Outlined}
 use Rattle.kernel.proofs.Kernels.{made, kernel-is, reach-none, reach-off, reach-on, run-on, run-off}
+
+-- the test of radius 0, by the code's number and by the definition's
+pub zero-test : (km : Float) (b : Bool) → eq km (ofBits binary64 0) ≡ b → eq km (whole 0) ≡ b
+zero-test km b e = rw literal-0 at e
 
 -- a list of zeros has 0 at every place
 zeros : (n i : ℕ) → _≡_ {A = ℕ} (getD (replicate n 0) i 0) 0

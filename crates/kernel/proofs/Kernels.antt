@@ -18,13 +18,14 @@ use Rattle.lists.proofs.Bools.{cases}
 use Rattle.lists.proofs.Fronts.{length-tabulate, getD-tabulate}
 use Rattle.grid.specs.declared.Row.{Row}
 use Rattle.grid.specs.Grid.{angleOf}
-use Rattle.grid.specs.Map.{Globe}
+use Rattle.grid.specs.Map.{Globe, sheetOf}
 use Rattle.grid.proofs.SheetOrder.{InOrder}
 use Rattle.kernel.specs.declared.Kernel.{Kernel}
-use Rattle.kernel.specs.Kernel.{reach, rowReach, runEnd, rowRun, kernelOf, rowPlaces}
+use Rattle.kernel.specs.Kernel.{rowReach, runEnd, rowRun, kernelOf}
+use Rattle.reach.specs.Reach.{reach, rowPlaces}
 use Rattle.kernel.specs.Requires.{Banded, RunsJoined}
 use Rattle.lists.proofs.Counts.{count-is, count-le, count-tests}
-use Rattle.kernel.proofs.Reaches.{missed-beyond}
+use Rattle.reach.proofs.Reaches.{missed-beyond, reach-sheet}
 use Rattle.kernel.proofs.RowRuns.{run-onward, run-alike}
 
 -- ---- a row's reach
@@ -234,3 +235,18 @@ module _ (s : Globe) (c : Row) (km : Float) (high : s .grid .height ≤ rowPlace
     pub kernel-joined : RunsJoined (kernelOf s c km)
     kernel-joined =
         record { onward = λ r h u. omega (arith, run-at r h u, run-onward (rowReach s c km) (rowPlaces - r) r); within = run-within; alike = run-same }
+
+-- ---- kernels read no cosine
+
+rows-sheet : (s : Globe) (row : Row) (km : Float) → rowReach (sheetOf (s .grid) (s .angles)) row km ≡ rowReach s row km
+unfolding rowReach
+rows-sheet s row km = λ i r.
+    cond (leb (s .grid .height) r || eq km (whole 0)) 0 (sym (reach-sheet (s .grid) (s .angles) (s .cosines) row (record { 0 = r }) (angleOf (s .grid) km)) i)
+
+runs-sheet : (s : Globe) (row : Row) (km : Float) → rowRun (sheetOf (s .grid) (s .angles)) row km ≡ rowRun s row km
+unfolding rowRun
+runs-sheet s row km = λ i r. cond (ltb 0 (rows-sheet s row km i r)) (runEnd (rows-sheet s row km i) (rowPlaces - r) r) 0
+
+pub kernel-sheet : (s : Globe) (row : Row) (km : Float) → kernelOf (sheetOf (s .grid) (s .angles)) row km ≡ kernelOf s row km
+unfolding kernelOf
+kernel-sheet s row km = rw (rows-sheet s row km, runs-sheet s row km)

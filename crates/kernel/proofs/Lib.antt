@@ -1,10 +1,4 @@
-pub mod General
-pub mod Angle
-pub mod Circles
 pub mod Populations
-pub mod Reaches
-pub mod Edges
-pub mod Walks
 pub mod RowRuns
 pub mod Kernels
 pub mod Built

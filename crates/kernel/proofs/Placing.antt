@@ -9,7 +9,7 @@ use native.Mathlib.Omega.{arith}
 use Rattle.grid.specs.declared.Row.{Row}
 use Rattle.grid.specs.declared.Col.{Col}
 use Rattle.grid.specs.declared.Grid.{Grid}
-use Rattle.grid.specs.Map.{Globe, Map, angleAt, count, globeOf, sheetOf}
+use Rattle.grid.specs.Map.{Globe, Map, count, globeOf, sheetOf}
 use Rattle.grid.specs.Questions.{sizesInRange, sheetInOrder}
 use Rattle.grid.proofs.Answers.{Passed}
 use Rattle.grid.proofs.Sizes.{grid-sizes}
@@ -17,19 +17,16 @@ use Rattle.grid.proofs.SheetOrder.{InOrder, in-order}
 use Rattle.sums.specs.State.{tableMap, countsMap, globeMap}
 use Rattle.sums.specs.Requires.{Summed}
 use Rattle.kernel.specs.declared.Kernel.{Kernel}
-use Rattle.kernel.specs.Circle.{population}
-use Rattle.kernel.specs.Kernel.{reach, rowReach, rowRun, kernelOf, inKernel, kernelPopulation, rowPlaces}
-use Rattle.kernel.specs.Requires.{OnSheet, CanSum}
+use Rattle.circle_cells.specs.Circle.{population}
+use Rattle.kernel.specs.Kernel.{kernelOf, inKernel, kernelPopulation}
+use Rattle.reach.specs.Reach.{rowPlaces}
+use Rattle.reach.specs.Requires.{OnSheet}
+use Rattle.kernel.specs.Requires.{CanSum}
 use Rattle.kernel.specs.State.{KernelAt, rowsOnly}
-use Rattle.kernel.proofs.Kernels.{kernel-banded, kernel-joined}
+use Rattle.kernel.proofs.Kernels.{kernel-sheet, kernel-banded, kernel-joined}
 use Rattle.kernel.proofs.Cells.{kernel-people}
 
--- kernels read no cosine
-pub kernel-sheet : (s : Globe) (row : Row) (km : Float) → kernelOf (sheetOf (s .grid) (s .angles)) row km ≡ kernelOf s row km
-unfolding kernelOf rowRun rowReach reach angleAt
-kernel-sheet s row km = refl
-
--- and their people no sheet
+-- the people of kernels read no sheet
 pub people-sheet : (m : Map) (k : Kernel) (col : Col) → kernelPopulation (countsMap (m .globe .grid) (m .counts)) k col ≡ kernelPopulation m k col
 unfolding kernelPopulation inKernel count
 people-sheet m k col = refl

@@ -9,7 +9,8 @@ use borrow.Author.Tests.{eq-eqb, ne-eqb, eqb-true, eqb-false}
 use lib.Dec.{eqb}
 use lib.ListN.{getD}
 use Rattle.lists.proofs.Bools.{cases, cond-true, cond-false, cond-case}
-use Rattle.kernel.specs.Kernel.{runEnd, rowPlaces}
+use Rattle.kernel.specs.Kernel.{runEnd}
+use Rattle.reach.specs.Reach.{rowPlaces}
 use Rattle.kernel.specs.State.{runIn}
 
 module _ (f : ℕ → ℕ) where

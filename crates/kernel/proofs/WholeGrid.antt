@@ -1,6 +1,6 @@
 -- A kernel is the whole grid where its reach in every row is beyond half a turn, and then its circle is.
 use Prim.Native.Nat.{ℕ, _/_, _≤_, _<_}
-use mathlib.Core.Path.{_≡_, sym, _∙_}
+use mathlib.Core.Path.{_≡_, sym, ap, _∙_}
 use mathlib.Core.Bool.{true, false}
 use mathlib.Core.List.{List}
 use native.Mathlib.Omega.{arith}
@@ -14,15 +14,17 @@ use Rattle.lists.proofs.Bools.{cases}
 use Rattle.grid.specs.declared.Grid.{Grid}
 use Rattle.grid.specs.declared.Row.{Row}
 use Rattle.grid.specs.Grid.{cell, closing, columnDistance}
-use Rattle.grid.specs.Map.{angleAt, globeOf, sheetOf}
+use Rattle.grid.specs.Map.{globeOf, sheetOf}
 use Rattle.grid.specs.Questions.{sizesInRange}
 use Rattle.grid.proofs.Distance.{distance-half}
 use Rattle.grid.proofs.SheetOrder.{in-order}
 use Rattle.grid.proofs.Sizes.{grid-sizes}
 use Rattle.kernel.specs.declared.Kernel.{Kernel}
-use Rattle.kernel.specs.Circle.{angleTo, inCircle, coversWholeGrid}
-use Rattle.kernel.specs.Requires.{OnSheet}
-use Rattle.kernel.specs.Kernel.{reach, rowReach, kernelOf, inKernel, kernelCovers}
+use Rattle.circle_cells.specs.Circle.{inCircle, coversWholeGrid}
+use Rattle.circle_cells.proofs.Circles.{circle-sheet, covers-of}
+use Rattle.reach.specs.Requires.{OnSheet}
+use Rattle.kernel.specs.Kernel.{kernelOf, inKernel, kernelCovers}
+use Rattle.kernel.proofs.Kernels.{kernel-sheet}
 use Rattle.kernel.proofs.Cells.{kernel-cells}
 
 -- ---- a row
@@ -61,12 +63,13 @@ module _ (g : Grid) (angles : List Float) (row : Row) (on : OnSheet g angles row
   cell-covered : (r k : ℕ) → r < g .height
       → inKernel g (kernelOf (sheetOf g angles) row km) (record { 0 = 0 }) (cell r k)
       ≡ inCircle (sheetOf g angles) km (record { row = row; col = record { 0 = 0 } }) (cell r k)
-  unfolding inKernel kernelOf rowReach reach inCircle angleTo angleAt
   cell-covered r k h =
       let s = globeOf g angles (on .sheet .cosines) in
-      kernel-cells s (in-order s (on .sheet .order)) (grid-sizes g (on .sheet .sizes) .rows) row (on .on) km (record { 0 = 0 }) (cell r k) h
+      ap (λ (x : Kernel). inKernel g x (record { 0 = 0 }) (cell r k)) (kernel-sheet s row km)
+      ∙ kernel-cells s (in-order s (on .sheet .order)) (grid-sizes g (on .sheet .sizes) .rows) row (on .on) km (record { 0 = 0 }) (cell r k) h
+      ∙ sym (circle-sheet s km (record { row = row; col = record { 0 = 0 } }) (cell r k))
 
   -- THE KERNEL IS THE WHOLE GRID WHERE ITS CIRCLE IS
   pub kernel-covers : kernelCovers g (kernelOf (sheetOf g angles) row km) ≡ coversWholeGrid (sheetOf g angles) km row
-  unfolding kernelCovers coversWholeGrid
-  kernel-covers = all-ext (g .height) _ _ (λ r h. all-ext (g .width) _ _ (λ k l. cell-covered r k h))
+  unfolding kernelCovers
+  kernel-covers = covers-of (sheetOf g angles) km row (inKernel g (kernelOf (sheetOf g angles) row km) (record { 0 = 0 })) (λ r k h l. cell-covered r k h)

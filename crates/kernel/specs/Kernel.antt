@@ -4,7 +4,7 @@ use Prim.Native.Nat.{ℕ, zero, suc, _+_, _-_}
 use mathlib.Core.Bool.{Bool, cond, _||_}
 use lib.Dec.{leb, ltb, eqb}
 use lib.ListN.{getD}
-use lib.Ieee.{Float, le, eq}
+use lib.Ieee.{Float, eq}
 use Rattle.lists.specs.Counted.{sumBelow, allBelow, one}
 use Rattle.lists.specs.Front.{tabulate}
 use Rattle.floats.specs.Binary.{whole}
@@ -12,25 +12,18 @@ use Rattle.grid.specs.declared.Row.{Row}
 use Rattle.grid.specs.declared.Col.{Col}
 use Rattle.grid.specs.declared.Cell.{Cell}
 use Rattle.grid.specs.declared.Grid.{Grid}
-use Rattle.grid.specs.Grid.{mostRows, angleOf, cell, columnDistance, closing}
-use Rattle.grid.specs.Map.{Globe, Map, angleAt, count}
+use Rattle.grid.specs.Grid.{angleOf, cell, columnDistance}
+use Rattle.grid.specs.Map.{Globe, Map, count}
+use Rattle.reach.specs.Reach.{reach, rowPlaces}
 use Rattle.kernel.specs.declared.Kernel.{Kernel}
 
 -- ---- the rows of a circle
-
--- how many offsets of a row lie within an angle: 0 where the row is missed, closing + 1 for the full turn
-unfoldable pub reach : Globe → Row → Row → Float → ℕ
-reach s centre row limit = sumBelow (closing (s .grid) + 1) (λ k. one (le (angleAt s centre row k) limit))
 
 -- the reach of the circle of a radius in a row; radius 0 reaches no row, and no circle reaches a row off the grid
 unfoldable pub rowReach : Globe → Row → Float → ℕ → ℕ
 rowReach s centre km row =
     let within = reach s centre (record { 0 = row }) (angleOf (s .grid) km) in
     cond (leb (s .grid .height) row || eq km (whole 0)) 0 within
-
--- the rows that a kernel has a place for: as many as a grid may have
-abbrev pub rowPlaces : ℕ
-rowPlaces = mostRows
 
 -- where the run of one value that a place is in ends, looked for among the n places after it
 unfoldable pub runEnd : (ℕ → ℕ) → ℕ → ℕ → ℕ

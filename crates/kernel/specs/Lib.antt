@@ -1,4 +1,3 @@
-pub mod Circle
 pub mod Kernel
 pub mod Requires
 pub mod State

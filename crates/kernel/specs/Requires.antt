@@ -1,39 +1,16 @@
--- What building a kernel and summing it ask: a sheet that a call has tested, rows of its grid, and a kernel whose rows fit together.
+-- What building a kernel and summing it ask: rows that fit together.
 use Prim.Native.Nat.{ℕ, _≤_, _<_}
 use mathlib.Core.Path.{_≡_}
-use mathlib.Core.Bool.{true}
 use mathlib.Core.List.{List}
 use mathlib.Core.Logic.{_⊎_}
 use lib.ListN.{getD, length}
-use lib.Ieee.{Float}
-use Rattle.grid.specs.declared.Row.{Row}
 use Rattle.grid.specs.declared.Col.{Col}
 use Rattle.grid.specs.declared.Grid.{Grid}
-use Rattle.grid.specs.Map.{globeOf}
-use Rattle.grid.specs.Questions.{sizesInRange, sheetComplete, sheetInOrder}
 use Rattle.sums.specs.Requires.{Summed}
+use Rattle.reach.specs.Reach.{rowPlaces}
 use Rattle.kernel.specs.declared.Kernel.{Kernel}
-use Rattle.kernel.specs.Kernel.{rowPlaces}
 
 -- ---- building
-
--- with some cosines the grid and the angles have passed questions 1, 5 and 6
-pub record Sheet (g : Grid) (angles : List Float) : Type 0 where
-  pub cosines : List Float
-  pub sizes : sizesInRange g ≡ true
-  pub complete : sheetComplete (globeOf g angles cosines) ≡ true
-  pub order : sheetInOrder (globeOf g angles cosines) ≡ true
-
--- such a sheet, and a row of the grid
-pub record OnSheet (g : Grid) (angles : List Float) (row : Row) : Type 0 where
-  pub sheet : Sheet g angles
-  pub on : row .0 < g .height
-
--- such a sheet, a centre row and a row of the grid
-pub record PairOnSheet (g : Grid) (angles : List Float) (centre row : Row) : Type 0 where
-  pub sheet : Sheet g angles
-  pub centre-on : centre .0 < g .height
-  pub row-on : row .0 < g .height
 
 -- the rows from north up to end are touched, and the next one south is missed
 pub record Outlined (reaches : List ℕ) (north end : ℕ) : Type 0 where

@@ -1,11 +1,9 @@
 // Kernels of circles: sets of cells, built for a row and a radius.
 mod band;
-mod outward;
 mod runs;
 
 pub use band::build;
 use grid::Row;
-pub use outward::within;
 
 // The rows that a kernel has a place for: as many as a grid may have.
 pub const ROWS: usize = grid::MOST_ROWS as usize;

@@ -4,8 +4,9 @@ ghost use mathlib.Core.Bool.{cond};
 ghost use Prim.Native.Nat.{_+_, _<_};
 ghost use lib.Dec.{eqb};
 ghost use lib.ListN.{length};
-ghost use Rattle.kernel.specs.Kernel.{rowPlaces};
-ghost use Rattle.kernel.specs.State.{Filled, runIn};
+ghost use Rattle.reach.specs.Reach.{rowPlaces};
+ghost use Rattle.reach.specs.State.{Filled};
+ghost use Rattle.kernel.specs.State.{runIn};
 ghost use Rattle.kernel.specs.Requires.{Outlined};
 
 // Where the run of a row ends, of the reach here and the reach and the run's end of the row below.

@@ -5,13 +5,16 @@ use grid::Row;
 use kernel::ROWS;
 use sums::RowBand;
 ghost use mathlib.Core.Path.{_≡_};
+ghost use Prim.Native.Nat.{_<_, _^_};
 ghost use Rattle.kernel.specs.Kernel.{kernelPopulation};
 ghost use Rattle.kernel.specs.Requires.{CanSum};
 ghost use Rattle.kernel.specs.State.{rowsOnly};
 ghost use Rattle.sums.specs.State.{tableMap};
 
+// A byte's number, which fits 32 bits twice over, as `band_span` asks of a half width.
 fn wide(x: u8) -> u32
     ensures { λ r. ⌜ r ≡ x ⌝ }
+    ensures { λ r. ⌜ r < 2 ^ 8 ⌝ }
 {
     x as u32
 }

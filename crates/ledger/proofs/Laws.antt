@@ -1,6 +1,6 @@
 -- Laws of the ledger: the entries and the places after a put, what get sees of a put, and what a put keeps.
 use Prim.Native.Nat.{ℕ, suc, _+_, _≤_}
-use mathlib.Core.Path.{_≡_, refl, sym, ap}
+use mathlib.Core.Path.{_≡_, refl, sym, ap, _∙_}
 use mathlib.Core.Bool.{true, false, _||_, true≢false}
 use mathlib.Core.List.{List}
 use native.Mathlib.Omega.{arith}
@@ -48,6 +48,18 @@ module _ (l : Ledger) (x : Entry) where
       cases (eqb (x .km .0) km)
       (λ e. let same = eqb-true (x .km .0) km e in rw (e, ← same, get-put-same))
       (λ e. rw (e, get-put-other km e))
+
+  -- what holds of the circle put and of every one that get saw holds of every one that get sees
+  pub got-put : (P : ℕ → Candidate → Type 0) → P (x .km .0) (x .centre) → ((km : ℕ) (c : Candidate) → get l km ≡ Circle c → P km c)
+      → (km : ℕ) (c : Candidate) → get (put l x) km ≡ Circle c → P km c
+  got-put P new old km c g =
+      cases (eqb (x .km .0) km)
+      (λ e.
+      let same = eqb-true (x .km .0) km e in
+      let gets : Circle (x .centre) ≡ Circle c = sym get-put-same ∙ rw (← same) at g in
+      let is : x .centre ≡ c = cc in
+      rw (← same, ← is) new)
+      (λ e. old km c (sym (get-put-other km e) ∙ g))
 
   -- a put at a new kilometre is one entry more
   pub length-put : get l (x .km .0) ≡ Nothing → length (entries (put l x)) ≡ suc (length (entries l))

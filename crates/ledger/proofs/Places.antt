@@ -16,7 +16,7 @@ use Rattle.grid.specs.Grid.{ceiling, onGrid}
 use Rattle.candidates.specs.Candidate.{centreOf}
 use Rattle.ledger.specs.declared.Entry.{Entry}
 use Rattle.ledger.specs.declared.Ledger.{Ledger}
-use Rattle.ledger.specs.declared.Got.the-variants.{Circle}
+use Rattle.ledger.specs.declared.Got.the-variants.{Circle, Nothing}
 use Rattle.ledger.specs.Ledger.{capacity, entries, find, entryInBounds, risingFrom, allInBounds, ledgerInOrder}
 use Rattle.ledger.specs.State.{placeOf}
 
@@ -42,6 +42,14 @@ order-counted g l h = rw h
 pub order-beyond : (g : Grid) (l : Ledger) → leb (l .len) capacity ≡ false → ledgerInOrder g l ≡ false
 unfolding ledgerInOrder
 order-beyond g l h = rw h
+
+pub get-end : (es : List Entry) (km : ℕ) → es ≡ [] → find es km ≡ Nothing
+unfolding find
+get-end es km e = rw e
+
+pub place-end : (es : List Entry) (km : ℕ) → es ≡ [] → placeOf es km ≡ 0
+unfolding placeOf
+place-end es km e = rw e
 
 pub order-end : (g : Grid) (least : ℕ) (es : List Entry) → es ≡ [] → orderFrom g least es ≡ true
 unfolding risingFrom allInBounds

@@ -1,16 +1,12 @@
-// The ledger of best circles by whole kilometre: get, put, and the questions that judge it.
-mod judge;
-mod store;
-
+// The ledger of best circles by whole kilometre: its types, and a fresh one. What it holds and what is asked of it stands in `specs/Ledger.antt`;
+// `ledger_store` reads and changes it, `ledger_questions` judges it.
 use candidates::Candidate;
+use grid::Cell;
+use grid::Col;
 use grid::RadiusKm;
-pub use judge::entry_in_bounds;
-pub use judge::ledger_in_order;
-pub use judge::place_for;
-pub use judge::places_free;
-pub use store::fresh;
-pub use store::get;
-pub use store::put;
+use grid::Row;
+ghost use mathlib.Core.Path.{_≡_};
+ghost use Rattle.ledger.specs.State.{freshLedger};
 
 // The best circle at a radius.
 pub struct Entry {
@@ -33,4 +29,22 @@ impl Ledger {
 pub enum Got {
     Circle(Candidate),
     Nothing,
+}
+
+// A ledger with no entries. An array needs words from the start, so its places are blank.
+pub fn fresh() -> Ledger
+    ensures { λ r. ⌜ r ≡ freshLedger ⌝ }
+{
+    let north_west = Cell {
+        row: Row(0),
+        col: Col(0),
+    };
+    let blank = Entry {
+        km: RadiusKm(0),
+        centre: Candidate::at(north_west, 0),
+    };
+    Ledger {
+        len: 0,
+        places: [blank; Ledger::CAPACITY],
+    }
 }

@@ -2,12 +2,10 @@
 -- blocks and kernels are counted against the blocks examined.
 use Prim.Native.Nat.{ℕ, suc, _+_, _*_, _≤_, _<_}
 use mathlib.Core.Path.{_≡_, refl, ap, _∙_}
-use mathlib.Core.Bool.{Bool, true, false}
 use mathlib.Core.List.{List, [], _∷_, _++_}
 use native.Mathlib.Omega.{arith}
 use lib.ListN.{length, length-append}
 use lib.Ieee.{Float}
-use Rattle.lists.specs.Counted.{one}
 use Rattle.lists.specs.Lists.{concatEach, sort}
 use Rattle.lists.proofs.Bools.{cond-case}
 use Rattle.lists.proofs.Folds.{concat-append, concat-snoc}
@@ -18,12 +16,15 @@ use Rattle.grid.specs.declared.Grid.{Grid}
 use Rattle.grid.specs.Map.{Map}
 use Rattle.blocks.specs.declared.Block.{Block}
 use Rattle.candidates.specs.declared.Held.{Held}
-use Rattle.levels.specs.declared.Tally.{Tally}
+use Rattle.tally.specs.declared.Tally.{Tally}
 use Rattle.blocks.specs.Block.{area, byProbe, split, Rectangle}
 use Rattle.bounds.specs.Bound.{wideKm, bound}
 use Rattle.candidates.specs.Candidate.{prunes}
-use Rattle.levels.specs.Level.{plus, plusStats, Outcome, Work, wideBuilt, exactBuilt, pruned, evaluated, examine, started, joined, level}
+use Rattle.tally.specs.Counts.{plus, plusStats}
+use Rattle.chunk_work.specs.Work.{Outcome, Work}
+use Rattle.levels.specs.Level.{pruned, evaluated, examine, started, joined, level}
 use Rattle.blocks.proofs.Tiles.{length-area, split-settled, split-rectangle, split-shorter, extent}
+use Rattle.chunk_work.proofs.Added.{wide-le, exact-le}
 use Rattle.levels.proofs.Rule.{Kept, level-rule, chunks-few}
 
 -- ---- the next level
@@ -66,19 +67,6 @@ pub record Counts (g : Grid) (n : ℕ) (o p : Outcome) (bs : List Block) : Type 
   pub survivors : length (p .survivors) + o .tally .stats .«circles_evaluated» ≡ length (o .survivors) + p .tally .stats .«circles_evaluated»
   -- two kernels at most for a block, and two to start a chunk
   pub kernels : p .tally .stats .«kernels_built» ≤ o .tally .stats .«kernels_built» + 2 * length bs + 2 * n
-
-pub one-le : (b : Bool) → one b ≤ 1
-unfolding one
-one-le true = omega arith
-one-le false = omega arith
-
-pub wide-le : (w : Work) (b : Block) (wide : Float) → wideBuilt w b wide ≤ 1
-unfolding wideBuilt
-wide-le w b wide = one-le _
-
-pub exact-le : (w : Work) (b : Block) → exactBuilt w b ≤ 1
-unfolding exactBuilt
-exact-le w b = one-le _
 
 head : {P : Block → Type 0} {b : Block} → AllOf P (b ∷ []) → P b
 head (also p a) = p

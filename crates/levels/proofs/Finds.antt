@@ -16,7 +16,7 @@ use Rattle.lists.proofs.Sorts.{any-sort}
 use Rattle.grid.specs.declared.Cell.{Cell}
 use Rattle.grid.specs.Grid.{onGrid}
 use Rattle.grid.specs.Map.{Map}
-use Rattle.kernel.specs.Circle.{population}
+use Rattle.circle_cells.specs.Circle.{population}
 use Rattle.blocks.specs.declared.Block.{Block}
 use Rattle.candidates.specs.declared.Candidate.{Candidate}
 use Rattle.candidates.specs.declared.Held.{Held}
@@ -24,7 +24,8 @@ use Rattle.candidates.specs.declared.Held.the-variants.{Best}
 use Rattle.blocks.specs.Block.{isCell, probe, byProbe, split, Rectangle, Holds}
 use Rattle.bounds.specs.Bound.{wideKm, bound}
 use Rattle.candidates.specs.Candidate.{centreOf, candidate, betterHeld, prunes}
-use Rattle.levels.specs.Level.{Outcome, Work, pruned, evaluated, examine, started, joined, level}
+use Rattle.chunk_work.specs.Work.{Outcome, Work}
+use Rattle.levels.specs.Level.{pruned, evaluated, examine, started, joined, level}
 use Rattle.bounds.proofs.Bounds.{Bounded}
 use Rattle.grid.proofs.CellOrder.{of-on-grid}
 use Rattle.candidates.proofs.Order.{Below, OfHeld, ≼-refl, better-first, better-second, better-of, pruned-below}

@@ -8,37 +8,38 @@ use borrow.Author.Tests.{eqb-true}
 use lib.Dec.{eqb}
 use lib.Ieee.{Float}
 use lib.ListN.{length}
-use Rattle.lists.specs.Counted.{one}
 use Rattle.lists.proofs.Bools.{and-right}
 use Rattle.lists.proofs.Sums.{times-le}
 use Rattle.grid.specs.declared.Cell.{Cell}
 use Rattle.grid.specs.declared.Grid.{Grid}
 use Rattle.grid.specs.Grid.{mostColumns, mostRows, closing}
-use Rattle.grid.specs.Map.{Map, globeOf}
+use Rattle.grid.specs.Map.{Map}
 use Rattle.grid.specs.Questions.{sheetComplete}
 use Rattle.grid.proofs.Sizes.{Sizes, grid-sizes}
 use Rattle.sums.specs.State.{tableMap}
 use Rattle.kernel.specs.declared.Kernel.{Kernel}
-use Rattle.kernel.specs.Circle.{population}
+use Rattle.circle_cells.specs.Circle.{population}
 use Rattle.kernel.specs.Kernel.{kernelPopulation}
 use Rattle.kernel.specs.State.{KernelAt}
-use Rattle.kernel.specs.Requires.{Sheet, CanSum}
+use Rattle.reach.specs.Requires.{Sheet}
+use Rattle.kernel.specs.Requires.{CanSum}
 use Rattle.kernel.proofs.Placing.{rowsOf, lent-placed, lent-people}
 use Rattle.blocks.specs.declared.Block.{Block}
-use Rattle.blocks.specs.Block.{area, isCell, probe, Rectangle}
+use Rattle.blocks.specs.Block.{area, probe, Rectangle}
 use Rattle.blocks.specs.Requires.{Small}
 use Rattle.blocks.proofs.Tiles.{probe-held}
 use Rattle.blocks.proofs.Words.{rectangle-small}
 use Rattle.bounds.specs.Bound.{wideKm, bound}
-use Rattle.candidates.specs.declared.Held.{Held}
-use Rattle.candidates.specs.declared.Held.the-variants.{Best}
-use Rattle.candidates.specs.Candidate.{candidateOf, candidate, betterHeld, prunes}
-use Rattle.levels.specs.declared.Tally.{Tally}
-use Rattle.levels.specs.declared.ChunkWork.{ChunkWork}
-use Rattle.levels.specs.Level.{stats, tally, plus, wideBuilt, exactBuilt, pruned, evaluated, examine}
-use Rattle.levels.specs.State.{weight, statsWeight, summedMap, workOf, prunedWork, evaluatedWork}
-use Rattle.levels.specs.Requires.{mostCells, Ready, CanCount}
-use Rattle.levels.proofs.Counts.{one-le, wide-le, exact-le}
+use Rattle.candidates.specs.Candidate.{candidate, prunes}
+use Rattle.chunk_work.specs.declared.ChunkWork.{ChunkWork}
+use Rattle.tally.specs.Counts.{tally}
+use Rattle.chunk_work.specs.Work.{wideBuilt, exactBuilt}
+use Rattle.levels.specs.Level.{pruned, evaluated, examine}
+use Rattle.tally.specs.State.{weight}
+use Rattle.chunk_work.specs.State.{workOf, prunedWork, evaluatedWork}
+use Rattle.levels.specs.State.{summedMap}
+use Rattle.chunk_work.specs.Requires.{CanCount}
+use Rattle.levels.specs.Requires.{mostCells, Ready}
 
 -- ---- a map that is ready
 
@@ -88,34 +89,7 @@ module _ (g : Grid) (angles cosines : List Float) (sums : List ℕ) (t : Ready g
     pub can-count : (w : ChunkWork) → weight (w .tally) ≤ 2 ^ 30 → CanCount w b
     can-count w light = record { light = light; small = block-small; narrow = omega (arith, block-narrow) }
 
--- ---- counts
-
-pub one-few : (n : ℕ) (b : Bool) → n ≡ one b → n ≤ 1
-one-few n b e = rw e (one-le b)
-
-pub wide-few : (w : ChunkWork) (b : Block) (wide : Float) → wideBuilt (workOf w []) b wide ≤ 1
-wide-few w b wide = wide-le (workOf w []) b wide
-
-pub exact-few : (w : ChunkWork) (b : Block) → exactBuilt (workOf w []) b ≤ 1
-exact-few w b = exact-le (workOf w []) b
-
--- what a block adds
-pub plus-light : (t d : Tally) → weight t ≤ 2 ^ 30 → weight d ≤ 2 ^ 21 → weight t + weight d ≤ 2 ^ 31
-plus-light t d p q = omega arith
-
-pub added-light : (n p e k a s : ℕ) → n ≤ 1 → p ≤ 1 → e ≤ 1 → k ≤ 2 → a ≤ 2 ^ 20 → s ≤ 1 → weight (tally (stats 0 n p e k) a s) ≤ 2 ^ 21
-unfolding weight statsWeight
-added-light n p e k a s h₁ h₂ h₃ h₄ h₅ h₆ = omega arith
-
 -- ---- the two ways
-
--- what an evaluated block leaves, from what each step gave
-pub evaluated-is : (w : ChunkWork) (b : Block) (wide : Float) (people : ℕ) (p : Cell) (held : Held) (sum : Tally) → p ≡ probe b
-    → held ≡ betterHeld (w .held) (Best (candidateOf p people))
-    → sum ≡ plus (w .tally) (tally (stats 0 1 0 1 (wideBuilt (workOf w []) b wide + exactBuilt (workOf w []) b)) 0 (one (isCell b)))
-    → record { held = held; tally = sum; «wide_row» = p .row; «wide_km» = wide; «exact_row» = p .row } ≡ evaluatedWork w b wide people
-unfolding evaluatedWork
-evaluated-is w b wide people p held sum e h s = rw (h, s, e)
 
 turned : (a b : Bool) → a ≡ not b → b ≡ not a
 turned a true e = sym (ap not e)

@@ -16,7 +16,9 @@ use Rattle.grid.specs.Map.{Map}
 use Rattle.blocks.specs.declared.Block.{Block}
 use Rattle.candidates.specs.declared.Held.{Held}
 use Rattle.blocks.specs.Block.{byProbe, Rectangle}
-use Rattle.levels.specs.Level.{stats, tally, Outcome, Work, examine, started, chunk, chunks, joined, levelInOrder, level}
+use Rattle.tally.specs.Counts.{stats, tally}
+use Rattle.chunk_work.specs.Work.{Outcome, Work}
+use Rattle.levels.specs.Level.{examine, started, chunk, chunks, joined, levelInOrder, level}
 
 -- ---- chunks
 

@@ -1,10 +1,9 @@
 -- One level of the search: its blocks in the order of their probes, in chunks for four workers, each block pruned or evaluated.
-use Prim.Native.Nat.{ℕ, _+_, _/_, min}
-use mathlib.Core.Bool.{cond, not, _&&_}
+use Prim.Native.Nat.{_+_, _/_, min}
+use mathlib.Core.Bool.{cond}
 use mathlib.Core.List.{List, [], _∷_, _++_}
 use lib.ListN.{length}
-use lib.Ieee.{Float, eq}
-use lib.Dec.{eqb}
+use lib.Ieee.{Float}
 use Rattle.lists.specs.Counted.{max, divCeil, one}
 use Rattle.lists.specs.Lists.{fold, each, sort, pieces}
 use Rattle.grid.specs.declared.Row.{Row}
@@ -12,61 +11,13 @@ use Rattle.grid.specs.Map.{Map}
 use Rattle.blocks.specs.declared.Block.{Block}
 use Rattle.candidates.specs.declared.Held.{Held}
 use Rattle.candidates.specs.declared.Held.the-variants.{Best}
-use Rattle.levels.specs.declared.SearchStats.{SearchStats}
-use Rattle.levels.specs.declared.Tally.{Tally}
+use Rattle.tally.specs.Counts.{stats, tally, plus}
 use Rattle.blocks.specs.Block.{area, isCell, probe, byProbe}
 use Rattle.bounds.specs.Bound.{wideKm, bound}
 use Rattle.candidates.specs.Candidate.{candidate, betterHeld, prunes}
-
--- ---- the counts
-
--- the counts of the original: levels, blocks examined and pruned, circles evaluated, kernels built
-abbrev pub stats : ℕ → ℕ → ℕ → ℕ → ℕ → SearchStats
-stats levels examined pruned evaluated kernels =
-    record { levels = levels; «blocks_examined» = examined; «blocks_pruned» = pruned; «circles_evaluated» = evaluated; «kernels_built» = kernels }
-
--- the same with the cells of pruned blocks and of single-cell blocks evaluated
-abbrev pub tally : SearchStats → ℕ → ℕ → Tally
-tally s pruned settled = record { stats = s; «cells_pruned» = pruned; «cells_settled» = settled }
-
--- nothing counted
-unfoldable pub noStats : SearchStats
-noStats = stats 0 0 0 0 0
-
-unfoldable pub noTally : Tally
-noTally = tally noStats 0 0
-
--- count by count
-unfoldable pub plusStats : SearchStats → SearchStats → SearchStats
-plusStats s t =
-    stats (s .levels + t .levels) (s .«blocks_examined» + t .«blocks_examined») (s .«blocks_pruned» + t .«blocks_pruned»)
-    (s .«circles_evaluated» + t .«circles_evaluated») (s .«kernels_built» + t .«kernels_built»)
-
-unfoldable pub plus : Tally → Tally → Tally
-plus s t = tally (plusStats (s .stats) (t .stats)) (s .«cells_pruned» + t .«cells_pruned») (s .«cells_settled» + t .«cells_settled»)
+use Rattle.chunk_work.specs.Work.{Outcome, Work, wideBuilt, exactBuilt}
 
 -- ---- a chunk
-
--- what a chunk, or a level, has come to
-pub record Outcome : Type 0 where
-  pub held : Held
-  pub survivors : List Block
-  pub tally : Tally
-
--- a chunk at work: its outcome so far, and the row and radius of the wide kernel and the row of the exact one that it holds
-pub record Work : Type 0 where
-  pub outcome : Outcome
-  pub wideRow : Row
-  pub wideRadius : Float
-  pub exactRow : Row
-
--- a wide kernel counts as built unless the chunk holds one of its row and radius
-unfoldable pub wideBuilt : Work → Block → Float → ℕ
-wideBuilt w b wide = one (not (eqb (w .wideRow .0) (probe b .row .0) && eq (w .wideRadius) wide))
-
--- the exact kernels of a chunk have the plain radius, so that its row decides
-unfoldable pub exactBuilt : Work → Block → ℕ
-exactBuilt w b = one (not (eqb (w .exactRow .0) (probe b .row .0)))
 
 -- a block is pruned: no exact kernel, and what is held stays
 unfoldable pub pruned : Work → Block → Float → Work
@@ -142,5 +93,5 @@ level m km best bs = levelInOrder m km best (sort byProbe bs)
 
 -- opens all of the above, for facts that are computed
 unfoldable pub open-levels : Unit {0}
-unfolding noStats noTally plusStats plus wideBuilt exactBuilt pruned evaluated examine started chunk chunks joined levelInOrder level
+unfolding pruned evaluated examine started chunk chunks joined levelInOrder level
 open-levels = tt

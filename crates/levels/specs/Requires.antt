@@ -1,5 +1,5 @@
--- What a level and its chunks ask: a map that has passed its questions, counts that stay small, and room for the children.
-use Prim.Native.Nat.{ℕ, _+_, _*_, _≤_, _^_}
+-- What a level and its chunks ask: a map that has passed its questions, and room for the children.
+use Prim.Native.Nat.{ℕ, _+_, _*_, _≤_}
 use mathlib.Core.Path.{_≡_}
 use mathlib.Core.Bool.{true}
 use mathlib.Core.List.{List}
@@ -13,9 +13,6 @@ use Rattle.grid.specs.Questions.{sizesInRange, sheetComplete, sheetInOrder}
 use Rattle.sums.specs.Requires.{Summed}
 use Rattle.blocks.specs.declared.Block.{Block}
 use Rattle.blocks.specs.Block.{area, Rectangle}
-use Rattle.blocks.specs.Requires.{Small}
-use Rattle.levels.specs.declared.ChunkWork.{ChunkWork}
-use Rattle.levels.specs.State.{weight}
 
 -- the cells of the largest grid that question 1 lets pass
 abbrev pub mostCells : ℕ
@@ -27,12 +24,6 @@ pub record Ready (g : Grid) (angles cosines : List Float) (sums : List ℕ) : Ty
   pub complete : sheetComplete (globeOf g angles cosines) ≡ true
   pub order : sheetInOrder (globeOf g angles cosines) ≡ true
   pub table : Summed g sums
-
--- a block whose cells and kernels can be counted
-pub record CanCount (w : ChunkWork) (b : Block) : Type 0 where
-  pub light : weight (w .tally) ≤ 2 ^ 30
-  pub small : Small b
-  pub narrow : area b ≤ 2 ^ 20
 
 -- blocks on the grid, at most as many cells as it has, and room for their children from place live on
 pub record CanSweep (g : Grid) (bs : List Block) (following : List ℕ) (live : ℕ) : Type 0 where

@@ -57,6 +57,11 @@ module _ {A : Type 0} where
   any-map f (here {x = x} p) = here (f x p)
   any-map f (there a) = there (any-map f a)
 
+  -- what some element and every element say together
+  pub any-all : {P Q : A → Type 0} {R : Type 0} {xs : List A} → ((x : A) → P x → Q x → R) → AnyOf P xs → AllOf Q xs → R
+  any-all f (here {x = x} p) (also q a) = f x p q
+  any-all f (there b) (also q a) = any-all f b a
+
   pub any-left : {P : A → Type 0} {xs : List A} (ys : List A) → AnyOf P xs → AnyOf P (xs ++ ys)
   any-left ys (here p) = here p
   any-left ys (there a) = there (any-left ys a)

@@ -14,17 +14,19 @@ use Rattle.sums.specs.Sums.{total}
 use Rattle.kernel.proofs.Populations.{population-total}
 use Rattle.blocks.specs.declared.Block.{Block}
 use Rattle.blocks.specs.Block.{probe, tile, Rectangle}
-use Rattle.bounds.specs.declared.Spacing.{Spacing}
+use Rattle.spacing.specs.declared.Spacing.{Spacing}
 use Rattle.bounds.specs.Bound.{wideKm, bound}
-use Rattle.bounds.specs.Spacing.{spacingOf}
+use Rattle.spacing.specs.Spacing.{spacingOf}
 use Rattle.candidates.specs.declared.Candidate.{Candidate}
 use Rattle.candidates.specs.declared.Held.{Held}
 use Rattle.candidates.specs.declared.Held.the-variants.{Nobody, Best}
 use Rattle.candidates.specs.Candidate.{centreOf, candidate, northWest, prunes}
 use Rattle.candidates.proofs.Order.{OfHeld, better-of}
-use Rattle.levels.specs.declared.Tally.{Tally}
-use Rattle.levels.specs.Level.{Outcome, Work, noTally, noStats, pruned, evaluated, examine, started, joined, level}
-use Rattle.levels.specs.State.{statsWeight}
+use Rattle.tally.specs.declared.Tally.{Tally}
+use Rattle.levels.specs.Level.{pruned, evaluated, examine, started, joined, level}
+use Rattle.chunk_work.specs.Work.{Outcome, Work}
+use Rattle.tally.specs.Counts.{noTally, noStats}
+use Rattle.tally.specs.State.{statsWeight}
 use Rattle.levels.proofs.Rule.{Kept, level-rule}
 use Rattle.levels.proofs.Counts.{next}
 use Rattle.levels.proofs.Finds.{Circle, probe-circle}

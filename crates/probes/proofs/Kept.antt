@@ -4,15 +4,14 @@ use mathlib.Core.Path.{_≡_, refl}
 use mathlib.Core.Bool.{Bool, true, false}
 use native.Mathlib.Omega.{arith}
 use lib.Ieee.{Float}
-use Rattle.lists.proofs.Bools.{cases}
 use Rattle.grid.specs.declared.Grid.{Grid}
 use Rattle.grid.specs.Grid.{ceiling}
 use Rattle.grid.specs.Map.{Map}
-use Rattle.bounds.specs.declared.Spacing.{Spacing}
+use Rattle.spacing.specs.declared.Spacing.{Spacing}
 use Rattle.candidates.specs.declared.Candidate.{Candidate}
-use Rattle.levels.specs.declared.SearchStats.{SearchStats}
-use Rattle.levels.specs.Level.{plusStats}
-use Rattle.levels.specs.State.{statsWeight}
+use Rattle.tally.specs.declared.SearchStats.{SearchStats}
+use Rattle.tally.specs.Counts.{plusStats}
+use Rattle.tally.specs.State.{statsWeight}
 use Rattle.search.specs.declared.MostPopulous.{MostPopulous}
 use Rattle.search.specs.Search.{search}
 use Rattle.ledger.specs.declared.Got.{Got}
@@ -20,14 +19,14 @@ use Rattle.ledger.specs.declared.Got.the-variants.{Circle, Nothing}
 use Rattle.ledger.specs.declared.Ledger.{Ledger}
 use Rattle.ledger.specs.Ledger.{capacity, entry, get, put, ledgerInOrder}
 use Rattle.ledger.specs.Requires.{InBounds}
-use Rattle.ledger.proofs.Order.{got-in-bounds, len-put-most, put-in-order}
-use Rattle.share.specs.Target.{reaches, withinSlack}
+use Rattle.ledger.proofs.Order.{len-put-most, put-in-order}
+use Rattle.climb.specs.Climb.{mostRadii}
+use Rattle.share.specs.Target.{withinSlack}
 use Rattle.probes.specs.declared.Ambiguity.{Ambiguity}
 use Rattle.probes.specs.declared.Ambiguity.the-variants as ambiguity-case
 use Rattle.probes.specs.declared.RunState.{RunState}
 use Rattle.probes.specs.declared.SmallestStats.{SmallestStats}
 use Rattle.probes.specs.Smallest.{widened}
-use Rattle.probes.specs.Probes.{mostRadii}
 use Rattle.probes.specs.State.{reusedMore, evaluatedMore, ambiguityAfter, noted, stateWith, stateAfter, ledgerWith, ledgerProbed, probeCount, radiiOf, searchWeight, InOrder}
 
 -- ---- the counts
@@ -50,17 +49,16 @@ pub record SearchSound (g : Grid) (f : MostPopulous) : Type 0 where
   pub light : statsWeight (f .tally .stats) ≤ searchWeight
 
 module _ (g : Grid) (persons slack : Float) (l : Ledger) (s : RunState) (km : ℕ) (i : InOrder g l s) where
-  noted-in-order : (c : Candidate) → InBounds g c → (l′ : Ledger) → ledgerInOrder g l′ ≡ true → l′ .len ≤ l .len + 1 → (t : SmallestStats)
+  noted-in-order : (c : Candidate) (l′ : Ledger) → ledgerInOrder g l′ ≡ true → l′ .len ≤ l .len + 1 → (t : SmallestStats)
       → t .«radii_evaluated» + t .«radii_reused» ≡ probeCount s + 1 → statsWeight (t .searched) ≤ statsWeight (s .stats .searched) + searchWeight
       → InOrder g l′ (noted persons slack s km c t)
   unfolding noted
-  noted-in-order c b l′ o r t n w =
+  noted-in-order c l′ o r t n w =
       record {
         ledger = o;
         room = omega (arith, i .room);
         light = omega (arith, i .light);
         radii = omega (arith, i .radii, radii-after (withinSlack persons slack c) (s .ambiguity) km);
-        found = cases (reaches persons c) (λ u. rw u b) (λ u. rw u (i .found));
       }
 
   -- WHAT EVERY PROBE KEEPS
@@ -73,7 +71,7 @@ module _ (g : Grid) (persons slack : Float) (l : Ledger) (s : RunState) (km : �
           → InOrder g (ledgerWith m spacing l km q) (stateWith m spacing persons slack s km q) × (probeCount (stateWith m spacing persons slack s km q) ≡ probeCount s + 1)
       by (Circle c) e =
           let more : s .stats .«radii_evaluated» + (s .stats .«radii_reused» + 1) ≡ probeCount s + 1 = omega arith in
-          (noted-in-order c (got-in-bounds g l km c (i .ledger) e) l (i .ledger) (omega arith) (reusedMore (s .stats)) more (omega arith), more)
+          (noted-in-order c l (i .ledger) (omega arith) (reusedMore (s .stats)) more (omega arith), more)
       by Nothing e =
           let c = search m spacing km .centre in
           let room : l .len + 1 ≤ capacity = omega (arith, i .room) in
@@ -81,7 +79,7 @@ module _ (g : Grid) (persons slack : Float) (l : Ledger) (s : RunState) (km : �
           let light : statsWeight (plusStats (s .stats .searched) (search m spacing km .tally .stats)) ≤ statsWeight (s .stats .searched) + searchWeight
           = omega (arith, plus-weight (s .stats .searched) (search m spacing km .tally .stats), f .light)
           in (
-            noted-in-order c (f .centre) (put l (entry km c)) (put-in-order g l km c (i .ledger) room h (f .centre)) (len-put-most l (entry km c))
+            noted-in-order c (put l (entry km c)) (put-in-order g l km c (i .ledger) room h (f .centre)) (len-put-most l (entry km c))
                 (evaluatedMore (s .stats) (search m spacing km .tally .stats)) more light,
             more,
           )

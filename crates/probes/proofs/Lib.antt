@@ -4,3 +4,4 @@ pub mod Kept
 pub mod AnySheet
 pub mod Probes
 pub mod Traces
+pub mod Centres

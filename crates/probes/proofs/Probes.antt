@@ -9,7 +9,7 @@ use Rattle.grid.specs.Map.{Map}
 use Rattle.grid.proofs.Sizes.{grid-sizes}
 use Rattle.sums.specs.Sums.{total}
 use Rattle.sums.proofs.Tables.{bare-total}
-use Rattle.bounds.specs.declared.Spacing.{Spacing}
+use Rattle.spacing.specs.declared.Spacing.{Spacing}
 use Rattle.candidates.specs.declared.Candidate.{Candidate}
 use Rattle.levels.specs.State.{summedMap}
 use Rattle.levels.specs.Requires.{Ready}
@@ -22,8 +22,8 @@ use Rattle.ledger.specs.Ledger.{entry, get, put}
 use Rattle.ledger.specs.Requires.{InBounds, PutRoom}
 use Rattle.ledger.proofs.Putting.{room-free}
 use Rattle.ledger.proofs.Order.{got-in-bounds, ordered}
+use Rattle.climb.specs.Climb.{mostRadii}
 use Rattle.probes.specs.declared.RunState.{RunState}
-use Rattle.probes.specs.Probes.{mostRadii}
 use Rattle.probes.specs.State.{reusedMore, evaluatedMore, noted, stateWith, stateAfter, ledgerWith, ledgerProbed, probeCount, InOrder}
 use Rattle.probes.specs.Requires.{CanNote, CanEvaluate}
 use Rattle.probes.proofs.Kept.{SearchSound}

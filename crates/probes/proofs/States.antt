@@ -12,9 +12,9 @@ use borrow.Author.Tests.{eq-eqb}
 use Rattle.lists.specs.Counted.{one}
 use Rattle.lists.proofs.Bools.{cases, and-no}
 use Rattle.grid.specs.Map.{Map}
-use Rattle.bounds.specs.declared.Spacing.{Spacing}
-use Rattle.levels.specs.declared.SearchStats.{SearchStats}
-use Rattle.levels.specs.Level.{noStats, plusStats}
+use Rattle.spacing.specs.declared.Spacing.{Spacing}
+use Rattle.tally.specs.declared.SearchStats.{SearchStats}
+use Rattle.tally.specs.Counts.{noStats, plusStats}
 use Rattle.search.specs.Search.{search}
 use Rattle.ledger.specs.declared.Got.{Got}
 use Rattle.ledger.specs.declared.Got.the-variants.{Circle, Nothing}

@@ -1,5 +1,5 @@
 -- The trace of a run as the climb sees it, whatever the map and the ledger: its probes are those of the climb, at most the most radii.
-use Prim.Native.Nat.{ℕ, suc, _-_, _≤_}
+use Prim.Native.Nat.{ℕ, suc, _≤_}
 use mathlib.Core.Path.{_≡_, refl, sym, ap, _∙_}
 use mathlib.Core.List.{List, [], _∷_}
 use native.Mathlib.Omega.{arith}
@@ -8,24 +8,23 @@ use lib.Ieee.{Float}
 use Rattle.lists.specs.Lists.{each}
 use Rattle.lists.proofs.Folds.{length-each}
 use Rattle.lists.proofs.Elements.{AnyOf, any-of-each}
-use Rattle.grid.specs.Grid.{ceiling}
 use Rattle.grid.specs.Map.{Map}
-use Rattle.grid.proofs.Body.{ceiling-least, ceiling-most}
-use Rattle.bounds.specs.declared.Spacing.{Spacing}
+use Rattle.spacing.specs.declared.Spacing.{Spacing}
 use Rattle.candidates.specs.declared.Candidate.{Candidate}
 use Rattle.ledger.specs.declared.Got.{Got}
 use Rattle.ledger.specs.declared.Got.the-variants.{Circle, Nothing}
 use Rattle.ledger.specs.declared.Ledger.{Ledger}
 use Rattle.ledger.specs.Ledger.{get}
-use Rattle.climb.specs.Climb.{Ended, climbRadii}
+use Rattle.climb.specs.Climb.{mostRadii, Ended, lastRadius, climbRadii}
+use Rattle.climb.proofs.Radii.{last-least, last-most}
 use Rattle.climb.proofs.Climb.{Finding, after, findings, Walked, Ends, run-ends}
 use Rattle.share.specs.Target.{reaches}
-use Rattle.probes.specs.Probes.{mostRadii, Probe, Run, reusedAt, searchedAt, probedWith, probed, latestOf, latest, targetPersons, smallestRun}
+use Rattle.probes.specs.Probes.{Probe, Run, reusedAt, searchedAt, probedWith, probed, latestOf, latest, targetPersons, smallestRun}
 use Rattle.probes.proofs.States.{starting}
 
--- the kilometre below the ceiling
+-- the last radius of a run
 abbrev pub lastKm : Map → ℕ
-lastKm m = ceiling (m .globe .grid) - 1
+lastKm m = lastRadius (m .globe .grid)
 
 abbrev pub findingOf : Probe → Finding Candidate
 findingOf p = record { km = p .km; found = p .centre }
@@ -75,5 +74,5 @@ module _ (m : Map) (spacing : Spacing) (l : Ledger) where
     pub smallest-ends : RunEnds (smallestRun m spacing share l)
     unfolding smallestRun
     smallest-ends =
-        run-ends (probed m spacing) latest (starting l) (reaches (targetPersons m share)) (lastKm m) (omega (arith, ceiling-least (m .globe .grid)))
-        (omega (arith, ceiling-most (m .globe .grid)))
+        run-ends (probed m spacing) latest (starting l) (reaches (targetPersons m share)) (lastKm m) (last-least (m .globe .grid))
+        (last-most (m .globe .grid))

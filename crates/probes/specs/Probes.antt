@@ -1,30 +1,24 @@
 -- The probes of a smallest-radius call: each taken from the ledger or searched and put, in a trace that every count is read from.
-use Prim.Native.Nat.{ℕ, _+_, _-_}
+use Prim.Native.Nat.{ℕ, _+_}
 use mathlib.Core.Bool.{Bool, true, false, not}
 use mathlib.Core.List.{List, [], _∷_}
 use lib.Ieee.{Float}
 use Rattle.lists.specs.Counted.{one}
 use Rattle.grid.specs.Map.{Map}
-use Rattle.grid.specs.Grid.{ceiling}
 use Rattle.sums.specs.Sums.{total}
-use Rattle.bounds.specs.declared.Spacing.{Spacing}
+use Rattle.spacing.specs.declared.Spacing.{Spacing}
 use Rattle.candidates.specs.declared.Candidate.{Candidate}
 use Rattle.candidates.specs.Candidate.{northWest}
-use Rattle.levels.specs.declared.SearchStats.{SearchStats}
-use Rattle.levels.specs.Level.{noStats, plusStats}
+use Rattle.tally.specs.declared.SearchStats.{SearchStats}
+use Rattle.tally.specs.Counts.{noStats, plusStats}
 use Rattle.search.specs.declared.MostPopulous.{MostPopulous}
 use Rattle.search.specs.Search.{search}
 use Rattle.ledger.specs.declared.Got.{Got}
 use Rattle.ledger.specs.declared.Got.the-variants.{Circle, Nothing}
 use Rattle.ledger.specs.declared.Ledger.{Ledger}
 use Rattle.ledger.specs.Ledger.{entry, get, put}
-use Rattle.climb.specs.Climb.{Ended, climb, climbRadii}
+use Rattle.climb.specs.Climb.{Ended, lastRadius, climb, climbRadii}
 use Rattle.share.specs.Target.{targetOf, reaches}
-
--- the most radii that a call probes: 15 up to 16,384 km and 13 halvings of the 8,192 radii from 8,193 on, or 16 up to 20,015 km and 12 halvings of
--- the 3,631 radii from 16,385 on
-abbrev pub mostRadii : ℕ
-mostRadii = 28
 
 -- ---- the target
 
@@ -78,11 +72,11 @@ latest r = latestOf (r .trace)
 
 -- ---- the run
 
--- climb and bisection from a ledger, up to the kilometre below the ceiling
+-- climb and bisection from a ledger, up to the last radius of the grid
 unfoldable pub smallestRun : Map → Spacing → Float → Ledger → Ended Run Candidate
 smallestRun m spacing share l =
     climb (probed m spacing) latest (reaches (targetPersons m share)) (record { trace = []; ledger = l }) 0
-    (climbRadii (ceiling (m .globe .grid) - 1))
+    (climbRadii (lastRadius (m .globe .grid)))
 
 -- ---- what the trace says
 

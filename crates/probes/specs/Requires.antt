@@ -6,19 +6,20 @@ use mathlib.Core.Path.{_≡_}
 use lib.Ieee.{Float}
 use Rattle.grid.specs.declared.Grid.{Grid}
 use Rattle.sums.specs.Sums.{total}
-use Rattle.kernel.specs.Requires.{Sheet}
+use Rattle.reach.specs.Requires.{Sheet}
 use Rattle.candidates.specs.declared.Candidate.{Candidate}
-use Rattle.levels.specs.State.{statsWeight, summedMap}
+use Rattle.levels.specs.State.{summedMap}
+use Rattle.tally.specs.State.{statsWeight}
 use Rattle.search.specs.declared.MostPopulous.{MostPopulous}
 use Rattle.search.specs.Requires.{CanSearch}
 use Rattle.ledger.specs.declared.Ledger.{Ledger}
 use Rattle.ledger.specs.Ledger.{ledgerInOrder, placesFree}
 use Rattle.ledger.specs.Requires.{InBounds}
+use Rattle.climb.specs.Climb.{mostRadii}
 use Rattle.share.specs.declared.Target.{Target}
 use Rattle.share.specs.Target.{targetOf, predicateSlackPersons}
 use Rattle.probes.specs.declared.RunState.{RunState}
 use Rattle.probes.specs.declared.RunEnd.{RunEnd}
-use Rattle.probes.specs.Probes.{mostRadii}
 use Rattle.probes.specs.State.{probeCount, radiiOf}
 
 -- ---- a probe

@@ -8,7 +8,7 @@ use lib.IntN.{negsuc}
 use Rattle.floats.specs.Binary.{whole}
 use Rattle.grid.specs.Map.{Map}
 use Rattle.grid.specs.Grid.{cell}
-use Rattle.bounds.specs.declared.Spacing.the-variants.{Cells}
+use Rattle.spacing.specs.declared.Spacing.the-variants.{Cells}
 use Rattle.candidates.specs.declared.Candidate.{Candidate}
 use Rattle.candidates.specs.Candidate.{candidateOf}
 use Rattle.search.specs.Ring.{ring, emptyRing}

@@ -9,8 +9,8 @@ use Rattle.floats.specs.Binary.{whole}
 use Rattle.grid.specs.Map.{Map}
 use Rattle.grid.specs.Grid.{ceiling}
 use Rattle.sums.specs.Sums.{total}
-use Rattle.kernel.specs.Circle.{coversWholeGrid}
-use Rattle.bounds.specs.declared.Spacing.{Spacing}
+use Rattle.circle_cells.specs.Circle.{coversWholeGrid}
+use Rattle.spacing.specs.declared.Spacing.{Spacing}
 use Rattle.candidates.specs.declared.Candidate.{Candidate}
 use Rattle.candidates.specs.Candidate.{northWest}
 use Rattle.ledger.specs.declared.Ledger.{Ledger}

@@ -9,20 +9,19 @@ use Rattle.grid.specs.Map.{Map, Globe}
 use Rattle.grid.specs.declared.Grid.{Grid}
 use Rattle.grid.specs.Grid.{ceiling}
 use Rattle.sums.specs.Sums.{total}
-use Rattle.kernel.specs.Circle.{coversWholeGrid}
-use Rattle.bounds.specs.declared.Spacing.{Spacing}
+use Rattle.circle_cells.specs.Circle.{coversWholeGrid}
+use Rattle.spacing.specs.declared.Spacing.{Spacing}
 use Rattle.candidates.specs.declared.Candidate.{Candidate}
 use Rattle.candidates.specs.Candidate.{northWest}
-use Rattle.levels.specs.declared.SearchStats.{SearchStats}
-use Rattle.levels.specs.Level.{noStats, plusStats}
-use Rattle.levels.specs.State.{statsWeight}
+use Rattle.tally.specs.declared.SearchStats.{SearchStats}
+use Rattle.tally.specs.Counts.{noStats, plusStats}
+use Rattle.tally.specs.State.{statsWeight}
 use Rattle.search.specs.Search.{search}
 use Rattle.ledger.specs.declared.Got.{Got}
 use Rattle.ledger.specs.declared.Got.the-variants.{Circle, Nothing}
 use Rattle.ledger.specs.declared.Ledger.{Ledger}
 use Rattle.ledger.specs.Ledger.{entry, get, put, capacity, ledgerInOrder}
-use Rattle.ledger.specs.Requires.{InBounds}
-use Rattle.climb.specs.Climb.{Ended, allShort, reachedAt}
+use Rattle.climb.specs.Climb.{mostRadii, Ended, allShort, reachedAt}
 use Rattle.share.specs.Target.{reaches, shareOf, predicateSlackPersons, withinSlack}
 use Rattle.share.specs.declared.Target.{Target}
 use Rattle.probes.specs.declared.Ambiguity.{Ambiguity}
@@ -34,7 +33,7 @@ use Rattle.probes.specs.declared.RunState.{RunState}
 use Rattle.probes.specs.declared.SmallestStats.{SmallestStats}
 use Rattle.probes.specs.declared.RunEnd.{RunEnd}
 use Rattle.probes.specs.declared.Ran.{Ran}
-use Rattle.probes.specs.Probes.{mostRadii, targetPersons, Probe, Run, smallestRun, evaluatedIn, reusedIn, statsOf}
+use Rattle.probes.specs.Probes.{targetPersons, Probe, Run, smallestRun, evaluatedIn, reusedIn, statsOf}
 use Rattle.probes.specs.Smallest.{shortBelow, widened, ambiguity}
 
 -- ---- the state before and after a probe
@@ -122,7 +121,6 @@ pub record InOrder (g : Grid) (l : Ledger) (s : RunState) : Type 0 where
   pub room : l .len + mostRadii ≤ capacity + probeCount s
   pub light : statsWeight (s .stats .searched) ≤ probeCount s * searchWeight
   pub radii : radiiOf (s .ambiguity) ≤ probeCount s
-  pub found : InBounds g (s .found)
 
 -- ---- the end
 

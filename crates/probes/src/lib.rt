@@ -6,15 +6,12 @@ mod state;
 use candidates::Candidate;
 use grid::RadiusKm;
 use ledger::Ledger;
-use levels::SearchStats;
 pub use probe::entry_of;
 pub use probe::evaluated;
 pub use probe::reused;
 use share::Target;
 pub use state::begun;
-
-// The most radii that a run probes, and so the places that a call asks for in its ledger.
-pub const MOST_RADII: usize = 28;
+use tally::SearchStats;
 
 // The short witness: the short probe right below the answer, if there was one.
 pub enum ShortBelow {

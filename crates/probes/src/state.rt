@@ -8,12 +8,12 @@ use grid::Cell;
 use grid::Col;
 use grid::RadiusKm;
 use grid::Row;
-use levels::SearchStats;
+use tally::SearchStats;
 ghost use mathlib.Core.Path.{_≡_};
 ghost use mathlib.Core.Bool.{cond};
 ghost use Prim.Native.Nat.{_+_, _≤_, _<_, _^_, min};
 ghost use Rattle.lists.specs.Counted.{max};
-ghost use Rattle.levels.specs.State.{statsWeight};
+ghost use Rattle.tally.specs.State.{statsWeight};
 ghost use Rattle.probes.specs.Smallest.{widened};
 ghost use Rattle.probes.specs.State.{runBegun, reusedMore, evaluatedMore, shortAfter, ambiguityAfter, noted, radiiOf};
 
@@ -110,7 +110,7 @@ pub(crate) fn evaluated_more(stats: SmallestStats, search: SearchStats) -> Small
     ensures { λ r. ⌜ r ≡ evaluatedMore stats search ⌝ }
 {
     let before = stats.searched;
-    let searched = levels::plus_stats(before, search);
+    let searched = tally::plus_stats(before, search);
     SmallestStats {
         radii_evaluated: stats.radii_evaluated + 1,
         radii_reused: stats.radii_reused,

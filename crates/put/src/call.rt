@@ -12,18 +12,18 @@ ghost use Rattle.put.specs.Call.{putQuestions, putCall, putGave};
 fn put_refusal(grid: Grid, ledger: Ledger, entry: Entry) -> u32
     ensures { λ r. ⌜ r ≡ firstNo (putQuestions grid ledger entry) ⌝ }
 {
-    let refusal = grid::grid_refusal(grid);
+    let refusal = grid_questions::grid_refusal(grid);
     if 0 < refusal {
         return refusal;
     }
-    if !ledger::ledger_in_order(grid, ledger) {
+    if !ledger_questions::ledger_in_order(grid, ledger) {
         return 11;
     }
-    if !ledger::entry_in_bounds(grid, entry) {
+    if !ledger_questions::entry_in_bounds(grid, entry) {
         return 11;
     }
     let km = entry.km;
-    if !ledger::place_for(ledger, km) {
+    if !ledger_questions::place_for(ledger, km) {
         return 12;
     }
     0
@@ -40,7 +40,7 @@ pub fn put_entry(grid: Grid, ledger: Ledger, entry: Entry) -> PutResult
             ledger,
         };
     }
-    let next = ledger::put(ledger, entry);
+    let next = ledger_store::put(ledger, entry);
     PutResult {
         answer: PutAnswer::Done,
         ledger: next,

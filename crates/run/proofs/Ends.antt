@@ -11,9 +11,9 @@ use Rattle.grid.specs.declared.Grid.{Grid}
 use Rattle.grid.specs.Grid.{onGrid}
 use Rattle.grid.specs.Map.{Map, angleAt, globeOf, sheetOf}
 use Rattle.sums.specs.Sums.{total}
-use Rattle.kernel.specs.Circle.{angleTo, inCircle, coversWholeGrid}
-use Rattle.kernel.specs.Requires.{OnSheet}
-use Rattle.bounds.specs.declared.Spacing.{Spacing}
+use Rattle.circle_cells.specs.Circle.{angleTo, inCircle, coversWholeGrid}
+use Rattle.reach.specs.Requires.{OnSheet}
+use Rattle.spacing.specs.declared.Spacing.{Spacing}
 use Rattle.candidates.specs.declared.Candidate.{Candidate}
 use Rattle.ledger.specs.declared.Ledger.{Ledger}
 use Rattle.climb.specs.Climb.{Ended, allShort, reachedAt}

@@ -1,5 +1,5 @@
 -- The loop of a run: what it keeps from probe to probe, and the answer where it ends.
-use Prim.Native.Nat.{ℕ, _+_, _-_, _^_, _≤_, _<_}
+use Prim.Native.Nat.{ℕ, _+_, _-_, _<_}
 use mathlib.Core.Path.{_≡_, refl, sym, ap, _∙_}
 use mathlib.Core.List.{List}
 use mathlib.Core.Bool.{Bool, true, false, cond, true≢false}
@@ -9,17 +9,15 @@ use lib.ListN.{length}
 use Rattle.lists.proofs.Bools.{cases}
 use Rattle.floats.specs.Binary.{whole}
 use Rattle.grid.specs.declared.Grid.{Grid}
-use Rattle.grid.specs.declared.RadiusKm.{RadiusKm}
 use Rattle.grid.specs.Grid.{ceiling}
 use Rattle.grid.specs.Map.{Map}
-use Rattle.grid.proofs.Body.{ceiling-least, ceiling-most}
-use Rattle.grid.proofs.Sizes.{Sizes, grid-sizes}
 use Rattle.sums.specs.Sums.{total}
-use Rattle.bounds.specs.declared.Spacing.{Spacing}
+use Rattle.spacing.specs.declared.Spacing.{Spacing}
 use Rattle.candidates.specs.declared.Candidate.{Candidate}
 use Rattle.candidates.specs.Candidate.{northWest}
-use Rattle.levels.specs.Level.{noStats}
-use Rattle.levels.specs.State.{statsWeight, summedMap}
+use Rattle.tally.specs.Counts.{noStats}
+use Rattle.levels.specs.State.{summedMap}
+use Rattle.tally.specs.State.{statsWeight}
 use Rattle.search.specs.declared.MostPopulous.{MostPopulous}
 use Rattle.search.specs.Requires.{CanSearch}
 use Rattle.search.specs.Search.{search}
@@ -27,27 +25,27 @@ use Rattle.ledger.specs.declared.Entry.{Entry}
 use Rattle.ledger.specs.declared.Got.the-variants.{Circle}
 use Rattle.ledger.specs.declared.Ledger.{Ledger}
 use Rattle.ledger.specs.Ledger.{get, ledgerInOrder, placesFree}
-use Rattle.ledger.specs.Requires.{InBounds, PutRoom}
+use Rattle.ledger.specs.Requires.{PutRoom}
 use Rattle.ledger.proofs.Laws.{places-free}
 use Rattle.climb.specs.declared.Bracket.{Bracket}
 use Rattle.climb.specs.Requires.{CanGoOn}
-use Rattle.climb.specs.Climb.{Ended, climb, climbRadii}
+use Rattle.climb.specs.Climb.{mostRadii, Ended, lastRadius, climb, climbRadii}
 use Rattle.climb.specs.State.{bracketStart, bracketClosed, nextRadius, bracketNext}
+use Rattle.climb.proofs.Radii.{last-below, last-least, last-most}
 use Rattle.climb.proofs.NextRadii.{Stage, stage-start, stage-open, left, left-start, stage-next, left-reached, left-short}
 use Rattle.share.specs.declared.Target.{Target}
 use Rattle.share.specs.Target.{reaches, predicateSlackPersons}
 use Rattle.probes.specs.declared.RunState.{RunState}
 use Rattle.probes.specs.declared.RunEnd.{RunEnd}
 use Rattle.probes.specs.declared.Ran.{Ran}
-use Rattle.probes.specs.Probes.{mostRadii, Run, targetPersons, probed, latest, smallestRun}
+use Rattle.probes.specs.Probes.{Run, targetPersons, probed, latest, smallestRun}
 use Rattle.probes.specs.State.{runBegun, stateAfter, probeCount, radiiOf, InOrder, endAt, ranTo, ran}
 use Rattle.run.specs.State.{endFrom}
 use Rattle.probes.specs.Requires.{CanNote, CanEvaluate, CanRun}
 use Rattle.probes.proofs.Traces.{lastKm}
 use Rattle.probes.proofs.States.{starting, Tracks, tracks-begun, tracks-next}
 use Rattle.probes.proofs.Kept.{SearchSound, in-order-next}
-use Rattle.probes.proofs.AnySheet.{corner-bounds}
-use Rattle.probes.proofs.Probes.{people-exact, ready-sound, can-reuse, can-put, can-evaluate, ProbedTo}
+use Rattle.probes.proofs.Probes.{ready-sound, can-reuse, can-put, can-evaluate, ProbedTo}
 
 -- ---- the next bracket
 
@@ -63,15 +61,14 @@ next-unreached cap c false e = (refl, cases (c .reached) (λ r. absurd (true≢f
 
 -- ---- the state at the start
 
-begun-in-order : (g : Grid) → Sizes g → (people : ℕ) → people ≤ 2 ^ 53 → (l : Ledger) → ledgerInOrder g l ≡ true → placesFree l mostRadii ≡ true → InOrder g l (runBegun people)
+begun-in-order : (g : Grid) (people : ℕ) (l : Ledger) → ledgerInOrder g l ≡ true → placesFree l mostRadii ≡ true → InOrder g l (runBegun people)
 unfolding runBegun noStats statsWeight radiiOf
-begun-in-order g sizes people exact l o r =
+begun-in-order g people l o r =
     record {
       ledger = o;
       room = omega (arith, places-free l mostRadii r);
       light = omega arith;
       radii = omega arith;
-      found = corner-bounds g sizes people exact;
     }
 
 -- a run's end beside its ledger
@@ -95,18 +92,18 @@ module _ (m : Map) (spacing : Spacing) (persons slack : Float) (people : ℕ) (l
     pub order : InOrder (m .globe .grid) h s
     pub unfound : c .reached ≡ false → s .found ≡ northWest people
 
-  pub running-start : Sizes (m .globe .grid) → people ≤ 2 ^ 53 → ledgerInOrder (m .globe .grid) l ≡ true → placesFree l mostRadii ≡ true → Running l (runBegun people) bracketStart
+  pub running-start : ledgerInOrder (m .globe .grid) l ≡ true → placesFree l mostRadii ≡ true → Running l (runBegun people) bracketStart
   unfolding runBegun bracketStart
-  running-start sizes exact o r =
-      let least = ceiling-least (m .globe .grid) in
-      let most = ceiling-most (m .globe .grid) in
+  running-start o r =
+      let least = last-least (m .globe .grid) in
+      let most = last-most (m .globe .grid) in
       record {
         run = starting l;
         fuel = 15;
         tracks = tracks-begun persons slack people l;
-        same = sym (left-start (probed m spacing) latest (reaches persons) (lastKm m) (omega arith) (omega arith) (starting l) (northWest people));
-        stage = stage-start (lastKm m) (omega arith) (omega arith);
-        order = begun-in-order (m .globe .grid) sizes people exact l o r;
+        same = sym (left-start (probed m spacing) latest (reaches persons) (lastKm m) least most (starting l) (northWest people));
+        stage = stage-start (lastKm m) least most;
+        order = begun-in-order (m .globe .grid) people l o r;
         unfound = λ e. refl;
       }
 
@@ -115,7 +112,7 @@ module _ (m : Map) (spacing : Spacing) (persons slack : Float) (people : ℕ) (l
     pub running-open : bracketClosed c ≡ false → (nextRadius c < ceiling (m .globe .grid)) × (probeCount s < mostRadii)
     running-open o =
         let x = stage-open (lastKm m) (probeCount s) (i .fuel) c (i .stage) o in
-        (omega (arith, x .0, ceiling-least (m .globe .grid)), x .1)
+        (omega (arith, x .0, last-below (m .globe .grid)), x .1)
 
     pub running-next : bracketClosed c ≡ false → SearchSound (m .globe .grid) (search m spacing (nextRadius c))
         → (h′ : Ledger) (s′ : RunState) (c′ : Bracket) → ProbedTo m spacing persons slack h s (nextRadius c) h′ s′ → c′ ≡ bracketNext (lastKm m) c (s′ .reached)
@@ -171,7 +168,7 @@ module _ (m : Map) (spacing : Spacing) (persons slack : Float) (people : ℕ) (l
           (λ r.
           let short = left-short (probed m spacing) latest (reaches persons) (lastKm m) (probeCount s) (i .fuel) (i .run) (s .found) c (i .stage) o r in
           let ends = the-run ∙ i .same ∙ short .0 in
-          let top : c .low .0 ≡ ceiling (m .globe .grid) = omega (arith, short .1, ceiling-least (m .globe .grid)) in
+          let top : c .low .0 ≡ ceiling (m .globe .grid) = short .1 ∙ last-below (m .globe .grid) in
           rw ends (fields-reached (ceiling (m .globe .grid)) (northWest (total m)) false top (rw (← k) (i .unfound r)) r))
 
 -- ---- the loop's own terms
@@ -182,13 +179,9 @@ module _ {g : Grid} {angles cosines : List Float} {sums current following : List
   abbrev pub Looping : Ledger → RunState → Bracket → Type 0
   Looping h s c = Running (summedMap g angles cosines sums) spacing (t .persons) slack people l h s c
 
-  people-few : people ≤ 2 ^ 53
-  people-few = rw (can .total-is) (people-exact g angles cosines sums (can .search .ready))
-
   pub loop-starts : {s₀ : RunState} → s₀ ≡ runBegun people → {c₀ : Bracket} → c₀ ≡ bracketStart → Looping l s₀ c₀
   loop-starts b e =
-      rw (e, b)
-      (running-start (summedMap g angles cosines sums) spacing (t .persons) slack people l (grid-sizes g (can .search .ready .sizes)) people-few (can .ledger) (can .room))
+      rw (e, b) (running-start (summedMap g angles cosines sums) spacing (t .persons) slack people l (can .ledger) (can .room))
 
   module _ {h : Ledger} {s : RunState} {c : Bracket} (i : Looping h s c) (o : bracketClosed c ≡ false) where
     at : (nextRadius c < ceiling g) × (probeCount s < mostRadii)
@@ -215,26 +208,25 @@ module _ {g : Grid} {angles cosines : List Float} {sums current following : List
     pub loop-evaluates : (km : ℕ) {f : MostPopulous} → f ≡ search (summedMap g angles cosines sums) spacing km → CanEvaluate s f
     loop-evaluates km e = can-evaluate (i .order) (at .1) (rw e (ready-sound g angles cosines sums (can .search .ready) spacing km))
 
-    pub loop-fits : {last : RadiusKm} → last .0 ≡ lastKm (summedMap g angles cosines sums) → CanGoOn last c
-    loop-fits e = record { grid = g; below = omega (arith, e, ceiling-least g); within = omega (arith, e, at .0) }
+    pub loop-fits : CanGoOn g c
+    loop-fits = record { within = omega (arith, at .0, last-below g) }
 
-    pub loop-goes-on : {km last : ℕ} {h′ : Ledger} {s′ : RunState} {c′ : Bracket} → km ≡ nextRadius c → last ≡ lastKm (summedMap g angles cosines sums)
-        → ProbedTo (summedMap g angles cosines sums) spacing (t .persons) slack h s km h′ s′ → c′ ≡ bracketNext last c (s′ .reached)
+    pub loop-goes-on : {km : ℕ} {h′ : Ledger} {s′ : RunState} {c′ : Bracket} → km ≡ nextRadius c
+        → ProbedTo (summedMap g angles cosines sums) spacing (t .persons) slack h s km h′ s′ → c′ ≡ bracketNext (lastRadius g) c (s′ .reached)
         → Looping h′ s′ c′ × (probeCount s′ ≡ probeCount s + 1)
-    loop-goes-on {h′ = h′} {s′ = s′} {c′ = c′} e k f n =
+    loop-goes-on {h′ = h′} {s′ = s′} {c′ = c′} e f n =
         running-next (summedMap g angles cosines sums) spacing (t .persons) slack people l h s c i o (ready-sound g angles cosines sums (can .search .ready) spacing (nextRadius c))
-        h′ s′ c′ (rw (← e) f) (rw (← k) n)
+        h′ s′ c′ (rw (← e) f) n
 
     pub loop-falls : (s′ : RunState) → probeCount s′ ≡ probeCount s + 1 → mostRadii - probeCount s′ < mostRadii - probeCount s
     loop-falls s′ e = omega (arith, at .1)
 
   pub loop-ends : {h : Ledger} {s : RunState} {c : Bracket} → Looping h s c → bracketClosed c ≡ true → {e : RunEnd} → e ≡ endFrom c s
-      → (ranWith e h ≡ ran (summedMap g angles cosines sums) spacing (t .share) l) × InBounds g (e .centre)
+      → ranWith e h ≡ ran (summedMap g angles cosines sums) spacing (t .share) l
   unfolding targetPersons endFrom
   loop-ends {h} {s} {c} i o f =
       let m = summedMap g angles cosines sums in
       let persons : t .persons ≡ targetPersons m (t .share) = ap (λ (x : Target). x .persons) (can .target) in
       let all : t .total ≡ whole (total m) = ap (λ (x : Target). x .total) (can .target) in
       let width : slack ≡ predicateSlackPersons g (whole (total m)) = rw (← all) (can .slack-is) in
-      let ends = running-end m spacing (t .persons) slack people l h s c i (t .share) persons width (can .total-is) o in
-      (rw f ends, rw f (i .order .found))
+      rw f (running-end m spacing (t .persons) slack people l h s c i (t .share) persons width (can .total-is) o)

@@ -5,7 +5,7 @@ use probes::Smallest;
 use share::Target;
 ghost use mathlib.Core.Path.{_≡_};
 ghost use Rattle.grid.specs.Map.{sheetOf};
-ghost use Rattle.kernel.specs.Requires.{OnSheet};
+ghost use Rattle.reach.specs.Requires.{OnSheet};
 ghost use Rattle.probes.specs.State.{endCovers, answerBy};
 ghost use Rattle.probes.specs.Requires.{CanConclude};
 

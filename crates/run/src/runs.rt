@@ -1,17 +1,15 @@
 // The run: probes from the first radius until the bracket is closed.
-use bounds::Spacing;
 use climb::Bracket;
 use grid::Grid;
-use grid::RadiusKm;
 use ledger::Got;
 use ledger::Ledger;
 use probes::Ran;
 use probes::RunEnd;
 use probes::RunState;
 use share::Target;
+use spacing::Spacing;
 ghost use mathlib.Core.Path.{_≡_};
 ghost use Rattle.levels.specs.State.{summedMap};
-ghost use Rattle.ledger.specs.Requires.{InBounds};
 ghost use Rattle.probes.specs.Requires.{CanRun};
 ghost use Rattle.probes.specs.State.{ran};
 ghost use Rattle.run.specs.State.{endFrom};
@@ -51,16 +49,14 @@ pub fn run(
 ) -> Ran
     requires { ⌜ CanRun grid (now angles) (now cosines) (now sums) (now current) (now following) target slack total ledger ⌝ }
     ensures { λ r. ⌜ r ≡ ran (summedMap grid (now (angles .entry)) (now (cosines .entry)) (now (sums .entry))) spacing (target .share) ledger ⌝ }
-    ensures { λ r. ⌜ InBounds grid (r .end .centre) ⌝ }
 {
-    let last = RadiusKm(grid::ceiling(grid) - 1);
     let persons = target.persons;
     let mut state = probes::begun(total);
     let mut held = ledger;
     let mut bracket = Bracket::start();
     while !bracket.closed() {
         let km = bracket.radius();
-        match ledger::get(held, km) {
+        match ledger_store::get(held, km) {
             Got::Circle(centre) => state = probes::reused(persons, slack, state, km, centre),
             Got::Nothing => {
                 let found = search::search_at(
@@ -73,11 +69,11 @@ pub fn run(
                     km,
                     spacing,
                 );
-                held = ledger::put(held, probes::entry_of(km, found));
+                held = ledger_store::put(held, probes::entry_of(km, found));
                 state = probes::evaluated(persons, slack, state, km, found);
             }
         }
-        bracket = bracket.next(last, state.reached);
+        bracket = bracket.next(grid, state.reached);
     }
     Ran {
         end: end_of(bracket, state),

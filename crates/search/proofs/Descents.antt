@@ -22,17 +22,19 @@ use Rattle.blocks.specs.Block.{area, byProbe, tile, Rectangle}
 use Rattle.blocks.specs.State.{wordOf, blocksOf, wordsByProbe, Tiled}
 use Rattle.blocks.specs.Requires.{Small}
 use Rattle.probe_order.specs.Requires.{CanTake}
-use Rattle.blocks.proofs.Tiles.{length-area, tile-rectangle}
-use Rattle.blocks.proofs.TileWords.{tile-room}
+use Rattle.blocks.proofs.Tiles.{length-area, tile-rectangle, tile-room}
 use Rattle.blocks.proofs.Words.{rectangle-small, blocks-onto, blocks-written, blocks-sorted}
 use Rattle.candidates.specs.declared.Held.{Held}
 use Rattle.candidates.specs.declared.Held.the-variants.{Nobody}
-use Rattle.levels.specs.declared.Tally.{Tally}
+use Rattle.tally.specs.declared.Tally.{Tally}
 use Rattle.levels.specs.declared.ChunkResult.{ChunkResult}
 use Rattle.search.specs.declared.SearchResult.{SearchResult}
-use Rattle.levels.specs.Level.{noTally, plus, plusStats, Outcome, level, levelInOrder}
+use Rattle.levels.specs.Level.{level, levelInOrder}
+use Rattle.chunk_work.specs.Work.{Outcome}
+use Rattle.tally.specs.Counts.{noTally, plus, plusStats}
 use Rattle.search.specs.Search.{levels, searched}
-use Rattle.levels.specs.State.{weight, statsWeight, summedMap, children, Swept}
+use Rattle.levels.specs.State.{summedMap, children, Swept}
+use Rattle.tally.specs.State.{weight, statsWeight}
 use Rattle.levels.specs.Requires.{mostCells, Ready, CanSweep}
 use Rattle.search.specs.Requires.{TwoBuffers}
 use Rattle.search.specs.State.{FirstLevel, withLevel}

@@ -14,16 +14,17 @@ use Rattle.grid.specs.declared.Cell.{Cell}
 use Rattle.grid.specs.declared.Grid.{Grid}
 use Rattle.grid.specs.Grid.{cell, onGrid, before, cells}
 use Rattle.grid.specs.Map.{Map}
-use Rattle.kernel.specs.Circle.{population}
+use Rattle.circle_cells.specs.Circle.{population}
 use Rattle.blocks.specs.declared.Block.{Block}
 use Rattle.candidates.specs.declared.Candidate.{Candidate}
 use Rattle.candidates.specs.declared.Held.{Held}
 use Rattle.candidates.specs.declared.Held.the-variants.{Nobody, Best}
-use Rattle.levels.specs.declared.Tally.{Tally}
+use Rattle.tally.specs.declared.Tally.{Tally}
 use Rattle.search.specs.Best.{BestOf}
 use Rattle.blocks.specs.Block.{area, tile, Rectangle, Holds}
 use Rattle.candidates.specs.Candidate.{centreOf, candidate}
-use Rattle.levels.specs.Level.{noTally, noStats, plus, plusStats, level}
+use Rattle.levels.specs.Level.{level}
+use Rattle.tally.specs.Counts.{noTally, noStats, plus, plusStats}
 use Rattle.search.specs.declared.SearchResult.{SearchResult}
 use Rattle.search.specs.Search.{levels, searched}
 use Rattle.bounds.proofs.Bounds.{Bounded}

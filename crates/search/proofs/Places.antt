@@ -8,7 +8,7 @@ use Rattle.grid.specs.declared.Grid.{Grid}
 use Rattle.grid.specs.Grid.{mostColumns, mostRows, cells}
 use Rattle.grid.proofs.Sizes.{Sizes}
 use Rattle.blocks.specs.declared.Block.{Block}
-use Rattle.levels.specs.declared.Tally.{Tally}
+use Rattle.tally.specs.declared.Tally.{Tally}
 use Rattle.levels.specs.Requires.{mostCells}
 use Rattle.levels.proofs.Counts.{ended, decided}
 use Rattle.search.proofs.Levels.{Counted, Tallied}

@@ -1,5 +1,4 @@
--- The marked facts about searches of the ring, computed from the definitions.
-use mathlib.Core.Path.{refl}
+-- What a search of the ring of four cells is made of.
 use Rattle.floats.specs.Binary.{open-floats}
 use Rattle.lists.specs.Counted.{open-counted}
 use Rattle.lists.specs.Lists.{open-lists}
@@ -9,31 +8,18 @@ use Rattle.grid.specs.Map.{open-maps}
 use Rattle.grid.specs.Answer.{open-answers}
 use Rattle.grid.specs.Questions.{open-questions}
 use Rattle.sums.specs.Sums.{open-sums}
-use Rattle.kernel.specs.Circle.{open-circles}
+use Rattle.circle_cells.specs.Circle.{open-circles}
 use Rattle.blocks.specs.Block.{open-blocks}
 use Rattle.bounds.specs.Bound.{open-bounds}
-use Rattle.bounds.specs.Spacing.{open-spacings}
+use Rattle.spacing.specs.Spacing.{open-spacings}
 use Rattle.candidates.specs.Candidate.{open-candidates}
+use Rattle.tally.specs.Counts.{open-tallies}
+use Rattle.chunk_work.specs.Work.{open-works}
 use Rattle.levels.specs.Level.{open-levels}
 use Rattle.search.specs.Search.{open-searches}
-use Rattle.search.specs.Call.{open-search-calls}
-use Rattle.search.specs.Ring.{RingSearches, open-rings}
+use Rattle.search.specs.Ring.{open-rings}
 
 -- all that a search of the ring is made of, for facts that are computed
 unfoldable pub ring-open : Unit {0}
-unfolding open-floats open-counted open-lists open-fronts open-grids open-maps open-answers open-questions open-sums open-circles open-blocks open-bounds open-spacings open-candidates open-levels open-searches open-search-calls open-rings
+unfolding open-floats open-counted open-lists open-fronts open-grids open-maps open-answers open-questions open-sums open-circles open-blocks open-bounds open-spacings open-candidates open-tallies open-works open-levels open-searches open-rings
 ring-open = tt
-
-pub ring-searches : RingSearches
-unfolding ring-open
-ring-searches =
-    record {
-      accepted = refl;
-      most-line = refl;
-      at-10007 = refl;
-      at-0 = refl;
-      at-20016 = refl;
-      spacing-10007 = refl;
-      spacing-10008 = refl;
-      spacing-20016 = refl;
-    }

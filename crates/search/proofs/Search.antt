@@ -1,6 +1,6 @@
 -- The search at a whole number of kilometres names the best circle, with its population, and accounts for every cell.
 use Prim.Native.Nat.{ℕ, zero, suc, _+_, _≤_}
-use mathlib.Core.Path.{_≡_, sym}
+use mathlib.Core.Path.{_≡_, sym, ap, _∙_}
 use mathlib.Core.Logic.{_⊎_, inl, inr}
 use native.Mathlib.Omega.{arith}
 use lib.Dec.{T}
@@ -10,18 +10,19 @@ use Rattle.grid.specs.declared.Cell.{Cell}
 use Rattle.grid.specs.declared.Grid.{Grid}
 use Rattle.grid.specs.Grid.{cell, before, cells}
 use Rattle.grid.specs.Map.{Map}
-use Rattle.kernel.specs.Circle.{population}
-use Rattle.kernel.proofs.Populations.{population-zero}
-use Rattle.bounds.specs.declared.Spacing.{Spacing}
-use Rattle.bounds.specs.Spacing.{spacingOf}
+use Rattle.circle_cells.specs.Circle.{population}
+use Rattle.circle_cells.proofs.Populations.{population-zero}
+use Rattle.spacing.specs.declared.Spacing.{Spacing}
+use Rattle.spacing.specs.Spacing.{spacingOf}
 use Rattle.bounds.proofs.Bounds.{Bounded}
 use Rattle.grid.proofs.CellOrder.{corner-on, Compared, first, same, second, compare, Earlier, north, west, earlier}
 use Rattle.candidates.specs.declared.Candidate.{Candidate}
 use Rattle.candidates.specs.declared.Held.{Held}
-use Rattle.candidates.specs.declared.Held.the-variants.{Best}
+use Rattle.candidates.specs.declared.Held.the-variants.{Nobody, Best}
 use Rattle.search.specs.declared.MostPopulous.{MostPopulous}
 use Rattle.search.specs.Best.{BestOf}
 use Rattle.candidates.specs.Candidate.{centreOf, northWest}
+use Rattle.tally.specs.Counts.{noTally}
 use Rattle.search.specs.declared.SearchResult.{SearchResult}
 use Rattle.search.specs.Search.{searched, heldOr, mostPopulous, search}
 use Rattle.search.proofs.Levels.{searched-best, Tallied, searched-tallied}
@@ -95,3 +96,19 @@ module _ (m : Map) (spacing : Spacing) where
   pub search-best : (km : ℕ) → (1 ≤ km → Bounded m (whole km)) → 1 ≤ m .globe .grid .width → 1 ≤ m .globe .grid .height → Searched m km (search m spacing km)
   search-best zero bounded w h = search-zero w h
   search-best (suc km) bounded w h = search-above (suc km) (omega arith) (bounded (omega arith)) w h
+
+-- ---- what the code's search gives: nothing at radius 0, and otherwise what its levels found
+
+pub search-none : (m : Map) (spacing : Spacing) (km : ℕ) (found : SearchResult) → km ≡ 0 → found ≡ record { held = Nobody; tally = noTally }
+    → mostPopulous km (heldOr (northWest 0) (found .held)) (found .tally) ≡ search m spacing km
+unfolding search heldOr
+search-none m spacing km found e f = rw (e, f)
+
+pub search-found : (m : Map) (spacing : Spacing) (km side : ℕ) (found : SearchResult) → (km ≡ 0 → ⊥) → side ≡ spacingOf (m .globe .grid) (whole km) spacing
+    → record { held = found .held; tally = found .tally } ≡ searched m (whole km) side
+    → mostPopulous km (heldOr (northWest 0) (found .held)) (found .tally) ≡ search m spacing km
+unfolding search
+search-found m spacing km side found some e f =
+    let g : record { held = found .held; tally = found .tally } ≡ searched m (whole km) (spacingOf (m .globe .grid) (whole km) spacing) =
+    f ∙ ap (searched m (whole km)) e in
+    rw (ne-eqb km 0 some) (ap (λ (l : SearchResult). mostPopulous km (heldOr (northWest 0) (l .held)) (l .tally)) g)

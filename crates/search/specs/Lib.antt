@@ -1,6 +1,5 @@
 pub mod Best
 pub mod Search
-pub mod Call
 pub mod Ring
 pub mod State
 pub mod Requires

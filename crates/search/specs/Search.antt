@@ -13,12 +13,13 @@ use Rattle.candidates.specs.declared.Held.{Held}
 use Rattle.candidates.specs.declared.Held.the-variants.{Nobody, Best}
 use Rattle.search.specs.declared.MostPopulous.{MostPopulous}
 use Rattle.search.specs.declared.SearchResult.{SearchResult}
-use Rattle.bounds.specs.declared.Spacing.{Spacing}
-use Rattle.levels.specs.declared.Tally.{Tally}
+use Rattle.spacing.specs.declared.Spacing.{Spacing}
+use Rattle.tally.specs.declared.Tally.{Tally}
 use Rattle.blocks.specs.Block.{tile, split}
-use Rattle.bounds.specs.Spacing.{spacingOf}
+use Rattle.spacing.specs.Spacing.{spacingOf}
 use Rattle.candidates.specs.Candidate.{northWest}
-use Rattle.levels.specs.Level.{noTally, plus, level}
+use Rattle.levels.specs.Level.{level}
+use Rattle.tally.specs.Counts.{noTally, plus}
 
 -- level by level, the survivors split; at most fuel levels
 unfoldable pub levels : ℕ → Map → Float → SearchResult → List Block → SearchResult

@@ -8,7 +8,7 @@ use Rattle.grid.specs.declared.Grid.{Grid}
 use Rattle.blocks.specs.Block.{tile, byProbe}
 use Rattle.blocks.specs.State.{blocksOf}
 use Rattle.levels.specs.declared.ChunkResult.{ChunkResult}
-use Rattle.levels.specs.Level.{plus}
+use Rattle.tally.specs.Counts.{plus}
 use Rattle.search.specs.declared.SearchResult.{SearchResult}
 
 -- the first level's blocks, in probe order at the front of the buffer, and how many they are

@@ -3,12 +3,13 @@ use crate::SearchResult;
 use candidates::Held;
 use grid::Grid;
 use levels::ChunkResult;
-use levels::SearchStats;
-use levels::Tally;
+use tally::SearchStats;
+use tally::Tally;
 ghost use mathlib.Core.Path.{_≡_};
 ghost use Prim.Native.Nat.{_+_, _≤_, _^_};
-ghost use Rattle.levels.specs.Level.{noTally};
-ghost use Rattle.levels.specs.State.{weight, summedMap};
+ghost use Rattle.tally.specs.Counts.{noTally};
+ghost use Rattle.levels.specs.State.{summedMap};
+ghost use Rattle.tally.specs.State.{weight};
 ghost use Rattle.search.specs.Search.{searched};
 ghost use Rattle.levels.specs.Requires.{Ready};
 ghost use Rattle.search.specs.Requires.{TwoBuffers};
@@ -30,7 +31,7 @@ fn first_level(grid: Grid, spacing: u32, current: &mut [u64], following: &mut [u
     requires { ⌜ TwoBuffers grid (now current) (now following) ⌝ }
     ensures { λ r. ⌜ FirstLevel grid spacing (now (current .exit)) r ⌝ }
 {
-    let n = blocks::tile(grid, spacing, following);
+    let n = pieces::tile(grid, spacing, following);
     probe_order::insert_from(following, n, current);
     n
 }
@@ -43,7 +44,7 @@ fn with_level(found: SearchResult, level: ChunkResult) -> SearchResult
     let held = level.held;
     let counted = found.tally;
     let more = level.tally;
-    let tally = levels::plus(counted, more);
+    let tally = tally::plus(counted, more);
     SearchResult { held, tally }
 }
 

@@ -1,14 +1,12 @@
-// The search: levels until no block is left, and the call.
-mod call;
+// The search: levels until no block is left.
 mod descend;
+mod radius;
 
-pub use call::buffers_fit;
-pub use call::most_populous;
-pub use call::search_at;
 use candidates::Candidate;
 use candidates::Held;
 use grid::RadiusKm;
-use levels::Tally;
+pub use radius::search_at;
+use tally::Tally;
 
 // What the levels have come to.
 pub struct SearchResult {
@@ -23,10 +21,4 @@ pub struct MostPopulous {
     pub radius: RadiusKm,
     pub tolerance_persons: f64,
     pub tally: Tally,
-}
-
-// The circle, or the number of the first question that is answered no.
-pub enum SearchAnswer {
-    Found(MostPopulous),
-    Refused(u32),
 }

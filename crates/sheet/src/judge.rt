@@ -231,7 +231,7 @@ impl SheetJudge {
 }
 
 // What the judge says of a whole sheet. After a run that does not fit no angle is read: what is refused stays refused.
-pub(crate) fn angles_in_order(grid: Grid, angles: &[f64]) -> bool
+pub fn angles_in_order(grid: Grid, angles: &[f64]) -> bool
     requires { ⌜ length (now angles) ≡ angleCount grid ⌝ }
     ensures { λ r. ⌜ r ≡ judged grid (now (angles .entry)) ⌝ }
 {

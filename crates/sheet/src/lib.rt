@@ -1,12 +1,8 @@
-// Question 6: the sheet's cosines in range and its angles in order, by a judge that is fed them; and with it the first refusal of a sheet and of a map.
+// Question 6 of a sheet's angles, by a judge that is fed them.
 mod judge;
-mod order;
-mod refusals;
 
 use grid::Grid;
-pub use order::sheet_in_order;
-pub use refusals::map_refusal;
-pub use refusals::sheet_refusal;
+pub use judge::angles_in_order;
 
 // A judge of a sheet's angles, fed in the sheet's order: where the next one stands, the angle before it, the latest
 // offset-0 angle, and whether all is well.

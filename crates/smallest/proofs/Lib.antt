@@ -1,3 +1,1 @@
-pub mod Ring
-pub mod SmallestCalls
-pub mod FewRadii
+pub mod Settling

@@ -1,5 +1,1 @@
-pub mod Call
 pub mod Requires
-pub mod State
-pub mod Ring
-pub mod FewRadii

@@ -8,7 +8,7 @@ use Rattle.grid.specs.declared.Grid.{Grid}
 use Rattle.search.specs.Requires.{CanSearch}
 use Rattle.ledger.specs.declared.Ledger.{Ledger}
 use Rattle.ledger.specs.Ledger.{ledgerInOrder, placesFree}
-use Rattle.probes.specs.Probes.{mostRadii}
+use Rattle.climb.specs.Climb.{mostRadii}
 
 -- an accepted map with its sums filled, level buffers, and a ledger that questions 11 and 12 let pass
 pub record CanSettle (g : Grid) (angles cosines : List Float) (sums current following : List ℕ) (l : Ledger) : Type 0 where

@@ -1,19 +1,18 @@
 // The smallest-radius call: it puts its questions, fills the sums, runs, and answers from where the run has ended.
-use crate::SmallestAnswer;
-use crate::SmallestResult;
-use bounds::Spacing;
 use grid::Grid;
 use ledger::Ledger;
-use probes::MOST_RADII;
+use smallest_rules::SmallestAnswer;
+use smallest_rules::SmallestResult;
+use spacing::Spacing;
 ghost use mathlib.Core.Path.{_≡_};
 ghost use Rattle.grid.specs.Answer.{firstNo};
 ghost use Rattle.grid.specs.Map.{lentMap};
 ghost use Rattle.levels.specs.State.{summedMap};
-ghost use Rattle.search.specs.Call.{buffers};
+ghost use Rattle.most_populous.specs.Call.{buffers};
 ghost use Rattle.probes.specs.Smallest.{smallest};
-ghost use Rattle.smallest.specs.Call.{smallestQuestions, smallestGave, smallestCall, ownQuestions};
+ghost use Rattle.smallest_rules.specs.Call.{smallestQuestions, smallestGave, smallestCall};
 ghost use Rattle.smallest.specs.Requires.{CanSettle};
-ghost use Rattle.smallest.specs.State.{IsSettled};
+ghost use Rattle.smallest_rules.specs.State.{IsSettled};
 
 // The smallest radius of a map whose questions are answered and whose sums are filled.
 fn settle(
@@ -57,25 +56,6 @@ fn settle(
     }
 }
 
-// The number of the first of the questions 9 to 12 that is answered no, or 0.
-fn own_refusal(grid: Grid, share: f64, spacing: Spacing, ledger: Ledger) -> u32
-    ensures { λ r. ⌜ r ≡ firstNo (ownQuestions grid spacing share ledger) ⌝ }
-{
-    if !share::share_in_range(share) {
-        return 9;
-    }
-    if !bounds::spacing_given(spacing) {
-        return 10;
-    }
-    if !ledger::ledger_in_order(grid, ledger) {
-        return 11;
-    }
-    if !ledger::places_free(ledger, MOST_RADII) {
-        return 12;
-    }
-    0
-}
-
 // The number of the first question of the call that is answered no, or 0.
 fn smallest_refusal(
     grid: Grid,
@@ -94,14 +74,14 @@ fn smallest_refusal(
         spacing share ledger
         (buffers (now (sums .entry)) (now (current .entry)) (now (following .entry)))) ⌝ }
 {
-    let refusal = sheet::map_refusal(grid, counts, angles, cosines);
+    let refusal = map_questions::map_refusal(grid, counts, angles, cosines);
     if refusal != 0 {
         return refusal;
     }
-    if !search::buffers_fit(grid, sums, current, following) {
+    if !most_populous::buffers_fit(grid, sums, current, following) {
         return 7;
     }
-    own_refusal(grid, share, spacing, ledger)
+    smallest_rules::own_refusal(grid, share, spacing, ledger)
 }
 
 // The smallest-radius call: the answer, or the number of the first question that is answered no, beside the ledger after it. A refusal gives the

@@ -1,22 +1,26 @@
 -- Bands and spans by rectangles: the people of a band of rows and a span of columns, and of a band's columns around a centre, for every size.
-use mathlib.Core.Path.{_≡_, _∙_}
+use mathlib.Core.Path.{_≡_, sym, _∙_}
 use mathlib.Core.Bool.{true, false, cond, _&&_}
 use Prim.Native.Nat.{ℕ, _+_, _-_, _/_, _≤_, _<_}
 use native.Mathlib.Omega.{arith}
 use borrow.Author.Tests.{le-leb, lt-leb}
 use Rattle.lists.specs.Counted.{sumBelow}
-use Rattle.lists.proofs.Sums.{sum-ext, sum-zeros, sumFrom, one-piece}
+use Rattle.lists.proofs.Sums.{sum-ext, sum-zeros, sumFrom, seg-same, one-piece}
 use Rattle.grid.specs.declared.Col.{Col}
 use Rattle.grid.specs.Map.{Map}
 use Rattle.sums.specs.declared.RowBand.{RowBand}
 use Rattle.sums.specs.declared.Rows.{Rows}
 use Rattle.sums.specs.declared.ColSpan.{ColSpan}
-use Rattle.sums.specs.Sums.{rectanglePopulation, inBand, inSpan, bandPopulation, rowSpan, bandSpan}
+use Rattle.sums.specs.Sums.{rectanglePopulation, spanOf, inBand, inSpan, bandPopulation, rowSpan, bandSpan}
 use Rattle.sums.proofs.Columns.{spanned, span-one-piece, span-two-pieces, within, within-turn, within-inland, within-west, within-east}
 use Rattle.sums.proofs.Laws.{people, widthOf, heightOf, one-rectangle, two-rectangles}
 
+-- the columns from one to another
+abbrev columns : ℕ → ℕ → ColSpan
+columns west east = spanOf (record { 0 = west }) (record { 0 = east })
+
 -- the rows of a band
-abbrev rowsOf : RowBand → Rows
+abbrev pub rowsOf : RowBand → Rows
 rowsOf b = record { north = b .north .0; end = b .south .0 + 1 }
 
 -- ---- a band of rows
@@ -84,30 +88,27 @@ module _ (m : Map) (band : RowBand) (centre : Col) (half : ℕ) (ordered : band 
   unfolding rowSpan within
   around-turn h = band-span-rows ∙ one-rectangle m (rowsOf band) _ 0 (widthOf m) (λ r. within-turn (widthOf m) (centre .0) half (people m r) h)
 
-  -- less: one rectangle, or two at the seam, which lies in the west or in the east
+  -- less: a span, if in every row its columns are those around the centre
+  around : (s : ColSpan) → ((f : ℕ → ℕ) → sumBelow (widthOf m) (within (widthOf m) (centre .0) half f) ≡ sumBelow (widthOf m) (spanned s f))
+      → bandSpan m band centre half ≡ bandPopulation m band s
+  unfolding rowSpan within
+  around s same = band-span-rows ∙ seg-same (band .north .0) (band .south .0 + 1) _ _ (λ r p q. same (people m r)) ∙ sym (band-rows m band s ordered on)
+
+  -- one that does not meet the seam, or goes across it, in the west or in the east
   module _ (in-row : centre .0 < widthOf m) (short : half < widthOf m / 2) where
     pub around-inland : half ≤ centre .0 → centre .0 + half < widthOf m
-        → bandSpan m band centre half ≡ rectanglePopulation m (rowsOf band) (centre .0 - half) (centre .0 + half + 1)
-    unfolding rowSpan within
+        → bandSpan m band centre half ≡ bandPopulation m band (columns (centre .0 - half) (centre .0 + half))
     around-inland p q =
-        band-span-rows
-        ∙ one-rectangle m (rowsOf band) _ (centre .0 - half) (centre .0 + half + 1)
-        (λ r. within-inland (widthOf m) (centre .0) half (people m r) in-row (omega arith) p q)
+        let s = columns (centre .0 - half) (centre .0 + half) in
+        around s (λ f. within-inland (widthOf m) (centre .0) half f in-row (omega arith) p q ∙ sym (span-one-piece s (widthOf m) f (omega arith) q))
 
-    pub around-west : centre .0 < half
-        → bandSpan m band centre half
-        ≡ rectanglePopulation m (rowsOf band) (centre .0 + widthOf m - half) (widthOf m) + rectanglePopulation m (rowsOf band) 0 (centre .0 + half + 1)
-    unfolding rowSpan within
+    pub around-west : centre .0 < half → bandSpan m band centre half ≡ bandPopulation m band (columns (centre .0 + widthOf m - half) (centre .0 + half))
     around-west p =
-        band-span-rows
-        ∙ two-rectangles m (rowsOf band) _ (centre .0 + widthOf m - half) (widthOf m) 0 (centre .0 + half + 1)
-        (λ r. within-west (widthOf m) (centre .0) half (people m r) in-row (omega arith) p)
+        let s = columns (centre .0 + widthOf m - half) (centre .0 + half) in
+        around s (λ f. within-west (widthOf m) (centre .0) half f in-row (omega arith) p ∙ sym (span-two-pieces s (widthOf m) f (omega arith) (omega arith)))
 
-    pub around-east : half ≤ centre .0 → widthOf m < centre .0 + half + 1
-        → bandSpan m band centre half
-        ≡ rectanglePopulation m (rowsOf band) (centre .0 - half) (widthOf m) + rectanglePopulation m (rowsOf band) 0 (centre .0 + half + 1 - widthOf m)
-    unfolding rowSpan within
+    pub around-east : half ≤ centre .0 → widthOf m ≤ centre .0 + half
+        → bandSpan m band centre half ≡ bandPopulation m band (columns (centre .0 - half) (centre .0 + half - widthOf m))
     around-east p q =
-        band-span-rows
-        ∙ two-rectangles m (rowsOf band) _ (centre .0 - half) (widthOf m) 0 (centre .0 + half + 1 - widthOf m)
-        (λ r. within-east (widthOf m) (centre .0) half (people m r) in-row (omega arith) p q)
+        let s = columns (centre .0 - half) (centre .0 + half - widthOf m) in
+        around s (λ f. within-east (widthOf m) (centre .0) half f in-row (omega arith) p q ∙ sym (span-two-pieces s (widthOf m) f (omega arith) (omega arith)))

@@ -82,10 +82,10 @@ module _ (w c h : ℕ) (f : ℕ → ℕ) where
         (λ k a b. far k (omega arith))
         (λ k a b. near k (omega arith))
 
-    pub within-east : h ≤ c → w < c + h + 1 → sumBelow w (within w c h f) ≡ sumFrom (c - h) w f + sumFrom 0 (c + h + 1 - w) f
+    pub within-east : h ≤ c → w ≤ c + h → sumBelow w (within w c h f) ≡ sumFrom (c - h) w f + sumFrom 0 (c + h - w + 1) f
     unfolding columnDistance
     within-east p q =
-        two-pieces f (within w c h f) (c + h + 1 - w) (c - h) w (omega arith) (omega arith)
+        two-pieces f (within w c h f) (c + h - w + 1) (c - h) w (omega arith) (omega arith)
         (λ k a. near k (omega arith))
         (λ k a b. far k (omega arith))
         (λ k a b. near k (omega arith))

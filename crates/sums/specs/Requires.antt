@@ -58,13 +58,6 @@ pub record InlandOnTable (g : Grid) (rows : Rows) (w e : ℕ) : Type 0 where
   pub west : w ≤ e
   pub end : e ≤ g .width
 
--- such rows and two pieces of their columns, from a west one to the last and from the first to before an end
-pub record AcrossOnTable (g : Grid) (rows : Rows) (w e : ℕ) : Type 0 where
-  pub ordered : rows .north ≤ rows .end
-  pub south : rows .end ≤ g .height
-  pub west : w ≤ g .width
-  pub end : e ≤ g .width
-
 -- a band of rows in order and a span of columns, all on the grid
 pub record OnTable (g : Grid) (band : RowBand) (span : ColSpan) : Type 0 where
   pub ordered : band .north .0 ≤ band .south .0
@@ -72,8 +65,9 @@ pub record OnTable (g : Grid) (band : RowBand) (span : ColSpan) : Type 0 where
   pub west : span .west .0 < g .width
   pub east : span .east .0 < g .width
 
--- such a band and a centre column
-pub record InTable (g : Grid) (band : RowBand) (c : Col) : Type 0 where
+-- such a band, a centre column, and a half width that fits 32 bits twice, with one more
+pub record InTable (g : Grid) (band : RowBand) (c : Col) (h : ℕ) : Type 0 where
   pub ordered : band .north .0 ≤ band .south .0
   pub south : band .south .0 < g .height
   pub col : c .0 < g .width
+  pub half : h < 2 ^ 31

@@ -6,7 +6,7 @@ ghost use Rattle.lists.specs.Front.{over};
 ghost use Rattle.sums.specs.Sums.{corner as cornerOf, sumsWord, sumsFit, filledSums};
 ghost use Rattle.sums.specs.Sums.{rectanglePopulation, bandPopulation};
 ghost use Rattle.sums.specs.State.{countsMap, wordsThrough, tableMap};
-ghost use Rattle.sums.specs.Requires.{Fillable, RowReady, Summed, AtCorner, OnTable, StripOnTable, InlandOnTable, AcrossOnTable};
+ghost use Rattle.sums.specs.Requires.{Fillable, RowReady, Summed, AtCorner, OnTable, StripOnTable, InlandOnTable};
 use grid::Col;
 use grid::Grid;
 use grid::Row;
@@ -94,14 +94,17 @@ pub fn fill_sums(grid: Grid, counts: &[u32], sums: &mut [u64])
     }
 }
 
-// The word of a corner: the people above a row and west of a column, either of which may be one past the last.
+// The word of a corner: the people above a row and west of a column, either of which may be one past the last. The row's words come first:
+// corners of one row then share where it begins, which an index of the whole table would work out for each.
 pub fn corner(grid: Grid, sums: &[u64], row: u32, col: u32) -> u64
     requires { ⌜ Summed grid (now sums) ⌝ }
     requires { ⌜ AtCorner grid row col ⌝ }
     ensures { λ r. ⌜ r ≡ cornerOf (tableMap grid (now (sums .entry))) row col ⌝ }
 {
     let stride = grid.width as usize + 1;
-    sums[row as usize * stride + col as usize]
+    let from = row as usize * stride;
+    let words = &sums[from..];
+    words[col as usize]
 }
 
 // The people of some rows west of a column: two words.
@@ -116,7 +119,7 @@ pub fn strip(grid: Grid, sums: &[u64], rows: Rows, col: u32) -> u64
 }
 
 // The people of some rows from a column to before another: four words.
-pub fn inland(grid: Grid, sums: &[u64], rows: Rows, west: u32, end: u32) -> u64
+fn inland(grid: Grid, sums: &[u64], rows: Rows, west: u32, end: u32) -> u64
     requires { ⌜ Summed grid (now sums) ⌝ }
     requires { ⌜ InlandOnTable grid rows west end ⌝ }
     ensures { λ r. ⌜ r ≡ rectanglePopulation (tableMap grid (now (sums .entry))) rows west end ⌝ }
@@ -124,18 +127,8 @@ pub fn inland(grid: Grid, sums: &[u64], rows: Rows, west: u32, end: u32) -> u64
     strip(grid, sums, rows, end) - strip(grid, sums, rows, west)
 }
 
-// The same where the seam lies between: six words. A row's words begin at column 0 and do not go round, so such a span is two pieces, the
-// columns from west to the last and those from the first to before end, which have no column in common.
-pub fn across(grid: Grid, sums: &[u64], rows: Rows, west: u32, end: u32) -> u64
-    requires { ⌜ Summed grid (now sums) ⌝ }
-    requires { ⌜ AcrossOnTable grid rows west end ⌝ }
-    ensures { λ r. let m = tableMap grid (now (sums .entry)) in
-        ⌜ r ≡ rectanglePopulation m rows west (grid .width) + rectanglePopulation m rows 0 end ⌝ }
-{
-    inland(grid, sums, rows, west, grid.width) + strip(grid, sums, rows, end)
-}
-
-// The people of a band of rows and a span of columns.
+// The people of a band of rows and a span of columns: four words, or six where the seam lies between. A row's words begin at column 0 and do not
+// go round, so such a span is two pieces, the columns from west to the last and those from the first to before end, which have no column in common.
 pub fn population(grid: Grid, sums: &[u64], band: RowBand, span: ColSpan) -> u64
     requires { ⌜ Summed grid (now sums) ⌝ }
     requires { ⌜ OnTable grid band span ⌝ }
@@ -146,9 +139,10 @@ pub fn population(grid: Grid, sums: &[u64], band: RowBand, span: ColSpan) -> u64
         end: band.south.0 + 1,
     };
     let west = span.west.0;
-    let end = span.east.0 + 1;
-    if west < end {
+    let east = span.east.0;
+    let end = east + 1;
+    if west <= east {
         return inland(grid, sums, rows, west, end);
     }
-    across(grid, sums, rows, west, end)
+    inland(grid, sums, rows, west, grid.width) + strip(grid, sums, rows, end)
 }

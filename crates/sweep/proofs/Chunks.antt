@@ -24,8 +24,11 @@ use Rattle.blocks.specs.State.{wordOf, blocksOf, Written}
 use Rattle.blocks.proofs.Tiles.{length-area}
 use Rattle.candidates.specs.declared.Held.{Held}
 use Rattle.levels.specs.declared.ChunkResult.{ChunkResult}
-use Rattle.levels.specs.Level.{stats, tally, Outcome, chunk, chunks, joined, levelInOrder}
-use Rattle.levels.specs.State.{weight, statsWeight, summedMap, blocksFrom, children, Swept, joinedResults}
+use Rattle.levels.specs.Level.{chunk, chunks, joined, levelInOrder}
+use Rattle.chunk_work.specs.Work.{Outcome}
+use Rattle.tally.specs.Counts.{stats, tally}
+use Rattle.levels.specs.State.{summedMap, blocksFrom, children, Swept, joinedResults}
+use Rattle.tally.specs.State.{weight, statsWeight}
 use Rattle.levels.specs.Requires.{mostCells, CanSweep, ChunkWords}
 use Rattle.levels.proofs.Rule.{begun, chunks-rule, chunks-enough, chunks-whole, all-of-concat}
 use Rattle.levels.proofs.Counts.{ended, Counts, counts-kept, next-fits}

@@ -17,7 +17,8 @@ use Rattle.blocks.proofs.Shapes.{shape-north, shape-south}
 use Rattle.bounds.specs.Bound.{wideKm}
 use Rattle.bounds.specs.State.{wideKernel}
 use Rattle.bounds.proofs.Shaped.{same-wide-kernel}
-use Rattle.levels.specs.State.{Serves, noShape}
+use Rattle.levels.specs.State.{Serves}
+use Rattle.chunk_work.specs.State.{noShape}
 
 -- ---- wide kernels
 

@@ -14,17 +14,21 @@ use Rattle.lists.proofs.Writes.{writing-start, writing-more, writing-done, writ
 use Rattle.grid.specs.declared.Grid.{Grid}
 use Rattle.grid.specs.Map.{Map}
 use Rattle.grid.proofs.Sizes.{grid-sizes}
-use Rattle.kernel.specs.Requires.{Sheet, OnSheet}
+use Rattle.reach.specs.Requires.{Sheet, OnSheet}
 use Rattle.blocks.specs.declared.Block.{Block}
 use Rattle.blocks.specs.Block.{area, split, Rectangle}
 use Rattle.blocks.specs.State.{wordOf, blockOf, Written}
-use Rattle.blocks.specs.Requires.{CanSplit}
+use Rattle.pieces.specs.Requires.{CanSplit}
 use Rattle.blocks.proofs.Tiles.{length-area, split-rectangle, split-settled}
 use Rattle.candidates.specs.declared.Held.{Held}
-use Rattle.levels.specs.Level.{Work, examine, started, chunk}
-use Rattle.levels.specs.State.{weight, statsWeight, summedMap, workOf, startedWork, blocksFrom, children, Swept}
-use Rattle.levels.specs.declared.ChunkWork.{ChunkWork}
-use Rattle.levels.specs.Requires.{mostCells, Ready, CanCount, CanSweep, ChunkWords}
+use Rattle.levels.specs.Level.{examine, started, chunk}
+use Rattle.chunk_work.specs.Work.{Work}
+use Rattle.levels.specs.State.{summedMap, startedWork, blocksFrom, children, Swept}
+use Rattle.chunk_work.specs.State.{workOf}
+use Rattle.tally.specs.State.{weight, statsWeight}
+use Rattle.chunk_work.specs.declared.ChunkWork.{ChunkWork}
+use Rattle.levels.specs.Requires.{mostCells, Ready, CanSweep, ChunkWords}
+use Rattle.chunk_work.specs.Requires.{CanCount}
 use Rattle.levels.proofs.Rule.{fold-rule}
 use Rattle.levels.proofs.Counts.{ended, Counts, counts-kept, next-fits}
 use Rattle.levels.proofs.OneBlock.{block-small, can-count}

@@ -3,15 +3,17 @@ use crate::sweep;
 use candidates::Held;
 use grid::Grid;
 use levels::ChunkResult;
-use levels::SearchStats;
-use levels::Tally;
+use tally::SearchStats;
+use tally::Tally;
 ghost use mathlib.Core.Path.{_≡_};
 ghost use Prim.Native.Nat.{_+_, _≤_, _^_, min};
 ghost use lib.ListN.{length};
 ghost use Rattle.lists.specs.Counted.{max, divCeil};
 ghost use Rattle.blocks.specs.State.{blocksOf};
-ghost use Rattle.levels.specs.Level.{stats, tally, levelInOrder};
-ghost use Rattle.levels.specs.State.{weight, summedMap, joinedResults, Swept};
+ghost use Rattle.levels.specs.Level.{levelInOrder};
+ghost use Rattle.tally.specs.Counts.{stats, tally};
+ghost use Rattle.levels.specs.State.{summedMap, joinedResults, Swept};
+ghost use Rattle.tally.specs.State.{weight};
 ghost use Rattle.levels.specs.Requires.{Ready, CanSweep};
 
 // Four, or as many as there are blocks, and at least one. The counts hang on where a level is cut, and the original cuts it for four
@@ -65,7 +67,7 @@ fn joined(a: ChunkResult, b: ChunkResult) -> ChunkResult
     let held = candidates::better_held(first, second);
     let counted = a.tally;
     let more = b.tally;
-    let tally = levels::plus(counted, more);
+    let tally = tally::plus(counted, more);
     ChunkResult {
         held,
         tally,

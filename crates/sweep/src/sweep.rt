@@ -1,20 +1,20 @@
 // A chunk of a level: its blocks examined in turn, the survivors' children written into the other buffer.
 use blocks::Block;
 use candidates::Held;
+use chunk_work::ChunkWork;
 use grid::Grid;
 use grid::Row;
 use kernel_sums::circle_population;
 use levels::ChunkResult;
-use levels::ChunkWork;
-use levels::SearchStats;
-use levels::Tally;
+use tally::SearchStats;
+use tally::Tally;
 ghost use mathlib.Core.Path.{_≡_};
 ghost use mathlib.Core.Bool.{cond};
 ghost use mathlib.Core.List.{[]};
 ghost use Rattle.lists.specs.Lists.{each};
 ghost use Rattle.blocks.specs.Block.{split};
 ghost use Rattle.blocks.specs.State.{wordOf, Written};
-ghost use Rattle.blocks.specs.Requires.{CanSplit};
+ghost use Rattle.pieces.specs.Requires.{CanSplit};
 ghost use Rattle.levels.specs.Level.{chunk};
 ghost use Rattle.levels.specs.State.{summedMap, startedWork, blocksFrom, Swept};
 ghost use Rattle.levels.specs.Requires.{Ready, CanSweep, ChunkWords};
@@ -41,7 +41,7 @@ fn write_children(survives: bool, block: Block, following: &mut [u64], at: usize
     ensures { λ r. ⌜ Written (now (following .entry)) at (each wordOf (cond survives (split block) [])) (now (following .exit)) r ⌝ }
 {
     if survives {
-        return blocks::split(block, following, at);
+        return pieces::split(block, following, at);
     }
     at
 }
@@ -80,7 +80,7 @@ pub(crate) fn chunk(
 {
     let mut exact = kernel::build(grid, angles, Row(grid.height / 2), km);
     let mut one = exact;
-    let mut one_shape = levels::no_shape();
+    let mut one_shape = chunk_work::no_shape();
     let mut two = exact;
     let mut two_shape = one_shape;
     let mut work = started(grid, km, best);
@@ -91,7 +91,7 @@ pub(crate) fn chunk(
         let p = blocks::probe(block);
         let mut wide = km;
         let mut bound: u64 = 0;
-        if levels::odd_columns(block) {
+        if chunk_work::odd_columns(block) {
             if !blocks::same_shape(one_shape, block) {
                 one = bounds::wide_kernel(grid, angles, cosines, km, block);
                 one_shape = block;
@@ -106,10 +106,10 @@ pub(crate) fn chunk(
             wide = two.km;
             bound = circle_population(grid, sums, two.north, two.end, &two.reach, &two.run, p.col);
         }
-        let survives = levels::survives(work, bound);
+        let survives = chunk_work::survives(work, bound);
         let mut population = bound;
-        if levels::asks(survives, wide, km) {
-            if !levels::same_row(exact.row, p.row) {
+        if chunk_work::asks(survives, wide, km) {
+            if !chunk_work::same_row(exact.row, p.row) {
                 exact = kernel::build(grid, angles, p.row, km);
             }
             population = circle_population(
@@ -122,7 +122,7 @@ pub(crate) fn chunk(
                 p.col,
             );
         }
-        work = levels::examined(work, block, wide, survives, population);
+        work = chunk_work::examined(work, block, wide, survives, population);
         at = write_children(survives, block, following, at);
         i += 1;
     }

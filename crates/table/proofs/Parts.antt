@@ -3,18 +3,15 @@
 --     TableT, SumsT               the types, at a lifetime
 --     Tok                         the lifetime's token
 --     apart, joined               what a table owns beside R is what its grid and its sums own, and R, as a function's entry has it;  and what the two own is what the table owns
---     tableLaw, gridLaw, sumsLaw, numberLaw  the laws of the parameters' types
+--     tableLaw, gridLaw, sumsLaw  the laws of the parameters' types
 -- Assumes `Given`.
 use lib.ListN.{length}
-use mir.Syntax.{w32}
-use mir.Val.{vint}
 use base.Logic.{monoL, monoR}
 use base.Fml.{fsep}
 use contract.Lifetimes.{toks}
 use types.Kit.{keep, fsplit}
 use denote.RattleType.{RattleType}
-use denote.Builtin.{u32, u64}
-use denote.Plain.{uint-tells, uint-lawful}
+use denote.Builtin.{u64}
 use denote.Signature.{namedLft}
 use denote.Slice.{sliceVal, ShrSlice, shr-slice-tells, shr-slice-lawful}
 use denote.Struct.Declared.{Declared}
@@ -84,6 +81,3 @@ module _ {M : Type 1} (𝓤 : URA M) (H : Heap 𝓤) (A : Atoms 𝓤) (W : Given
 
   abbrev pub sumsLaw : (κ : Lft) → Law 𝓤 H A W (SumsT κ)
   sumsLaw κ = (sumsVal, (shr-slice-tells (named 0) κ u64, shr-slice-lawful 𝓤 H A W (named 0) κ u64))
-
-  abbrev pub numberLaw : Law 𝓤 H A W u32
-  numberLaw = ((λ (n : ℕ). vint w32 n), (uint-tells w32, uint-lawful 𝓤 H A W w32))

@@ -8,14 +8,14 @@ use lib.ListN.{length, take, drop}
 use lib.Seq.{take-at, drop-at, length-front}
 use Rattle.grid.specs.Grid.{cell}
 use Rattle.grid.specs.Map as grid-map
-use Rattle.search.specs.Call.{Buffers}
-use Rattle.jadurphen.specs.Crossing.{spacingFrom}
-use Rattle.jadurphen.specs.Calls.{CircleCrossing, circleCrossing, SearchCrossing, searchCrossing}
-use Rattle.jadurphen.specs.Smallest.{SmallestCrossing, smallestCrossing}
+use Rattle.crossings.specs.Crossing.{spacingFrom}
+use Rattle.crossings.specs.Calls.{CircleCrossing, circleCrossing, SearchCrossing, searchCrossing}
+use Rattle.crossings.specs.Smallest.{SmallestCrossing, smallestCrossing}
+use Rattle.most_populous.specs.Call.{Buffers}
 use Rattle.test_cases.specs.declared.map.Map.{Map}
-use Rattle.test_cases.specs.Numbers.{shortNumberAt}
+use Rattle.test_lines.specs.Numbers.{shortNumberAt}
 use Rattle.test_cases.specs.Calls.{lentOf, lentFronts, withFronts, shownBy, shownFront, boardLeft, circlePlayed, searchPlayed, smallestPlayed}
-use Rattle.test_cases.proofs.Words.{front-count, front-taken, front-dropped}
+use Rattle.test_lines.proofs.Words.{front-count, front-taken, front-dropped}
 
 -- the arrays lent
 pub lent-arrays : (m : Map) (counts c : List ℕ) (angles cosines a k : List Float) → c ≡ take (m .counts) counts → a ≡ take (m .angles) angles → k ≡ take (m .cosines) cosines

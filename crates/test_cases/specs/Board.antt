@@ -7,9 +7,9 @@ use lib.Ieee.{Float, binary64, ofBits}
 use lib.ListN.{length}
 use Rattle.lists.specs.Front.{over}
 use Rattle.grid.specs.declared.Grid.{Grid}
-use Rattle.jadurphen.specs.Crossing.{gridFrom}
+use Rattle.crossings.specs.Crossing.{gridFrom}
 use Rattle.test_cases.specs.declared.map.Map.{Map}
-use Rattle.test_cases.specs.Numbers.{shortOf, shortNumberAt, floatAt, orLast}
+use Rattle.test_lines.specs.Numbers.{shortOf, shortNumberAt, floatAt, orLast}
 
 -- width, height, origin latitude, longitude step, latitude step
 abbrev pub gridOf : List ℕ → Grid

@@ -7,12 +7,12 @@ use lib.ListN.{take, drop}
 use Rattle.grid.specs.Grid.{cell}
 use Rattle.grid.specs.Map as grid-map
 use Rattle.grid.specs.Answer.{Answer, decide, shown}
-use Rattle.search.specs.Call.{Buffers, buffers}
-use Rattle.jadurphen.specs.Crossing.{spacingFrom}
-use Rattle.jadurphen.specs.Calls.{CircleCrossing, circleReturned, circleCrossing, SearchCrossing, searchCrossing}
-use Rattle.jadurphen.specs.Smallest.{SmallestCrossing, smallestCrossing}
+use Rattle.crossings.specs.Crossing.{spacingFrom}
+use Rattle.crossings.specs.Calls.{CircleCrossing, circleReturned, circleCrossing, SearchCrossing, searchCrossing}
+use Rattle.crossings.specs.Smallest.{SmallestCrossing, smallestCrossing}
+use Rattle.most_populous.specs.Call.{Buffers, buffers}
 use Rattle.test_cases.specs.declared.map.Map.{Map}
-use Rattle.test_cases.specs.Numbers.{shortNumberAt}
+use Rattle.test_lines.specs.Numbers.{shortNumberAt}
 
 -- the map as a call sees it
 abbrev pub lentOf : Map → List ℕ → List Float → List Float → grid-map.Map

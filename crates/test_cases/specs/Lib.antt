@@ -1,4 +1,2 @@
-pub mod Numbers
-pub mod Lines
 pub mod Board
 pub mod Calls

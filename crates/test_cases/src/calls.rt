@@ -1,10 +1,9 @@
 // The C boundary's calls on a map, with so much of each array lent as it says, or all where there is less. They return 0 or
 // the number of a refusal.
 use crate::map::Map;
-use crate::numbers;
 ghost use mathlib.Core.Path.{_≡_};
-ghost use Rattle.search.specs.Call.{buffers};
-ghost use Rattle.jadurphen.specs.Calls.{circleReturned};
+ghost use Rattle.crossings.specs.Calls.{circleReturned};
+ghost use Rattle.most_populous.specs.Call.{buffers};
 ghost use Rattle.test_cases.specs.Calls.{lentOf, searchLeft, smallestLeft, circlePlayed, searchPlayed, smallestPlayed};
 
 // A single circle; asked are kilometre, row and column.
@@ -22,20 +21,20 @@ pub fn circle(
         (now (asked .entry)) (now (sums .entry)) (now (population .entry)) ⌝ }
 {
     let grid = map.grid;
-    let n = numbers::least(map.sums, sums.len());
+    let n = test_lines::least(map.sums, sums.len());
     jadurphen::jadurphen_circle(
         grid.width,
         grid.height,
         grid.origin_lat,
         grid.lon_step,
         grid.lat_step,
-        numbers::first_shorts(counts, map.counts),
-        numbers::first_floats(angles, map.angles),
-        numbers::first_floats(cosines, map.cosines),
+        test_lines::first_shorts(counts, map.counts),
+        test_lines::first_floats(angles, map.angles),
+        test_lines::first_floats(cosines, map.cosines),
         &mut sums[..n],
-        numbers::short_at(asked, 0),
-        numbers::short_at(asked, 1),
-        numbers::short_at(asked, 2),
+        test_lines::short_at(asked, 0),
+        test_lines::short_at(asked, 1),
+        test_lines::short_at(asked, 2),
         population,
     )
 }
@@ -61,18 +60,18 @@ pub fn search(
         (now (answer .entry)) (now (tolerance .entry)) ⌝ }
 {
     let grid = map.grid;
-    let n = numbers::least(map.sums, sums.len());
-    let of_current = numbers::least(map.current, current.len());
-    let of_following = numbers::least(map.following, following.len());
+    let n = test_lines::least(map.sums, sums.len());
+    let of_current = test_lines::least(map.current, current.len());
+    let of_following = test_lines::least(map.following, following.len());
     jadurphen::jadurphen_search(
         grid.width,
         grid.height,
         grid.origin_lat,
         grid.lon_step,
         grid.lat_step,
-        numbers::first_shorts(counts, map.counts),
-        numbers::first_floats(angles, map.angles),
-        numbers::first_floats(cosines, map.cosines),
+        test_lines::first_shorts(counts, map.counts),
+        test_lines::first_floats(angles, map.angles),
+        test_lines::first_floats(cosines, map.cosines),
         km,
         automatic,
         spacing,
@@ -107,18 +106,18 @@ pub fn smallest(
         (now (answer .entry)) (now (floats .entry)) ⌝ }
 {
     let grid = map.grid;
-    let n = numbers::least(map.sums, sums.len());
-    let of_current = numbers::least(map.current, current.len());
-    let of_following = numbers::least(map.following, following.len());
+    let n = test_lines::least(map.sums, sums.len());
+    let of_current = test_lines::least(map.current, current.len());
+    let of_following = test_lines::least(map.following, following.len());
     jadurphen::jadurphen_smallest(
         grid.width,
         grid.height,
         grid.origin_lat,
         grid.lon_step,
         grid.lat_step,
-        numbers::first_shorts(counts, map.counts),
-        numbers::first_floats(angles, map.angles),
-        numbers::first_floats(cosines, map.cosines),
+        test_lines::first_shorts(counts, map.counts),
+        test_lines::first_floats(angles, map.angles),
+        test_lines::first_floats(cosines, map.cosines),
         share,
         automatic,
         spacing,

@@ -1,8 +1,6 @@
 // A map that lines set: G its grid, C its counts, A its angles, K its cosines.
-use crate::numbers;
 use grid::Grid;
 ghost use mathlib.Core.Path.{_≡_};
-ghost use lib.Seq.{sets};
 ghost use Rattle.test_cases.specs.Board.{gridOf, noMap, shortsOf, floatsOf, board, boardSet};
 
 // The grid, and how much of each array a call is lent: of counts, angles and cosines as many as were listed last. The words
@@ -22,11 +20,11 @@ fn grid_of(line: &[u64]) -> Grid
     ensures { λ r. ⌜ r ≡ gridOf (now (line .entry)) ⌝ }
 {
     Grid {
-        width: numbers::short_at(line, 0),
-        height: numbers::short_at(line, 1),
-        origin_lat: numbers::float_at(line, 2),
-        lon_step: numbers::float_at(line, 3),
-        lat_step: numbers::float_at(line, 4),
+        width: test_lines::short_at(line, 0),
+        height: test_lines::short_at(line, 1),
+        origin_lat: test_lines::float_at(line, 2),
+        lon_step: test_lines::float_at(line, 3),
+        lat_step: test_lines::float_at(line, 4),
     }
 }
 
@@ -58,7 +56,7 @@ fn put_shorts(shorts: &mut [u32], line: &[u64])
 {
     let mut i: usize = 0;
     while i < shorts.len() {
-        shorts[i] = numbers::short_of(numbers::or_last(line, i));
+        shorts[i] = test_lines::short_of(test_lines::or_last(line, i));
         i += 1;
     }
 }
@@ -68,18 +66,7 @@ fn put_floats(floats: &mut [f64], line: &[u64])
 {
     let mut i: usize = 0;
     while i < floats.len() {
-        floats[i] = floats::from_bits(numbers::or_last(line, i));
-        i += 1;
-    }
-}
-
-// The words of a line or an array, put into another from a place on, as far as there is room.
-pub fn copy(from: &[u64], to: &mut [u64], at: usize)
-    ensures { λ r. ⌜ now (to .exit) ≡ sets (now (to .entry)) at (now (from .entry)) ⌝ }
-{
-    let mut i: usize = 0;
-    while i < from.len() {
-        numbers::put_word(to, at, i, from[i]);
+        floats[i] = floats::from_bits(test_lines::or_last(line, i));
         i += 1;
     }
 }

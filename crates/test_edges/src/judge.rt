@@ -31,8 +31,8 @@ fn by_pieces(grid: Grid, angles: &[f64], n: usize) -> bool
 
 // J: the length of the pieces, 0 for one by one.
 pub(crate) fn sheet(line: &[u64], map: Map, angles: &[f64]) {
-    let n = test_cases::word_at(line, 0) as usize;
-    let lent = test_cases::first_floats(angles, map.angles);
+    let n = test_lines::word_at(line, 0) as usize;
+    let lent = test_lines::first_floats(angles, map.angles);
     let well = if n == 0 {
         by_angle(map.grid, lent)
     } else {

@@ -23,13 +23,13 @@ const ROWS: usize = 91;
 // N: how much of each array is lent, and the words of the sums that an answer fills.
 fn lent(map: Map, line: &[u64]) -> Map {
     let mut out = map;
-    out.counts = test_cases::word_at(line, 0) as usize;
-    out.angles = test_cases::word_at(line, 1) as usize;
-    out.cosines = test_cases::word_at(line, 2) as usize;
-    out.sums = test_cases::word_at(line, 3) as usize;
-    out.current = test_cases::word_at(line, 4) as usize;
-    out.following = test_cases::word_at(line, 5) as usize;
-    out.filled = test_cases::word_at(line, 6) as usize;
+    out.counts = test_lines::word_at(line, 0) as usize;
+    out.angles = test_lines::word_at(line, 1) as usize;
+    out.cosines = test_lines::word_at(line, 2) as usize;
+    out.sums = test_lines::word_at(line, 3) as usize;
+    out.current = test_lines::word_at(line, 4) as usize;
+    out.following = test_lines::word_at(line, 5) as usize;
+    out.filled = test_lines::word_at(line, 6) as usize;
     out
 }
 
@@ -61,8 +61,8 @@ fn line_played(
     ledger: &mut [u64; test_cases::LEDGER_WORDS],
 ) -> Map {
     let mut numbers = [0u64; NUMBERS];
-    let read = test_cases::numbers_of(text, &mut numbers);
-    let line = test_cases::first_words(&numbers, read.count);
+    let read = test_lines::numbers_of(text, &mut numbers);
+    let line = test_lines::first_words(&numbers, read.count);
     print::name(read.tag, text);
     played(map, read.tag, line, counts, angles, cosines, ledger)
 }
@@ -77,7 +77,7 @@ fn all_played(
     let mut map = test_cases::none(0, 0, 0);
     let mut at: usize = 0;
     while at < list.len() {
-        let next = test_cases::after_line(list, at);
+        let next = test_lines::after_line(list, at);
         map = line_played(map, &list[at..next], counts, angles, cosines, ledger);
         at = next;
     }
@@ -93,7 +93,7 @@ fn main() {
     let mut angles = [0.0f64; ANGLES];
     let mut cosines = [0.0f64; ROWS];
     let mut ledger = [0u64; test_cases::LEDGER_WORDS];
-    let n = test_cases::read(b"cases.txt", &mut list);
+    let n = test_lines::read(b"cases.txt", &mut list);
     all_played(
         &list[..n],
         &mut counts,

@@ -48,9 +48,9 @@ fn search(line: &[u64], map: Map, counts: &[u32], angles: &[f64], cosines: &[f64
         counts,
         angles,
         cosines,
-        test_cases::short_at(line, 0),
-        test_cases::word_at(line, 1) == 1,
-        test_cases::short_at(line, 2),
+        test_lines::short_at(line, 0),
+        test_lines::word_at(line, 1) == 1,
+        test_lines::short_at(line, 2),
         &mut sums,
         &mut current,
         &mut following,
@@ -71,7 +71,7 @@ fn found_least(
 ) {
     print::answer(
         refusal,
-        test_cases::first_words(words, 14),
+        test_lines::first_words(words, 14),
         sums,
         map.filled,
     );
@@ -98,9 +98,9 @@ fn smallest(
         counts,
         angles,
         cosines,
-        test_cases::float_at(line, 3),
-        test_cases::word_at(line, 4) == 1,
-        test_cases::short_at(line, 5),
+        test_lines::float_at(line, 3),
+        test_lines::word_at(line, 4) == 1,
+        test_lines::short_at(line, 5),
         after,
         &mut sums,
         &mut current,
@@ -122,12 +122,12 @@ fn smallest_on(
     stays: bool,
 ) {
     let mut after = [0u64; test_cases::LEDGER_WORDS];
-    test_cases::copy(ledger, &mut after, 0);
+    test_lines::copy(ledger, &mut after, 0);
     let refusal = smallest(line, map, counts, angles, cosines, &mut after);
     print::entries(ledgers::strayed(refusal, line, ledger, &after), &after);
     print::text(b"\n");
     if stays {
-        test_cases::copy(&after, ledger, 0);
+        test_lines::copy(&after, ledger, 0);
     }
 }
 

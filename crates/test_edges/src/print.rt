@@ -21,7 +21,7 @@ pub(crate) fn number(n: u64) {
 // A case's name, which is printed but for the two bytes before it and the newline.
 pub(crate) fn name(tag: u8, line: &[u8]) {
     let n = line.len();
-    if tag != 0 || test_cases::byte_at(line, 0, 0) != b'=' {
+    if tag != 0 || test_lines::byte_at(line, 0, 0) != b'=' {
         return;
     }
     if 2 < n {
@@ -41,7 +41,7 @@ fn all(words: &[u64]) {
 pub(crate) fn changed(refusal: u32, words: &[u64], place: usize) {
     let before = [BEFORE; BUFFER];
     let from = if refusal == 0 { place } else { 0 };
-    number(test_cases::differing(words, from, &before, from, BUFFER));
+    number(test_lines::differing(words, from, &before, from, BUFFER));
 }
 
 // The refusal, or the answer's words and the last prefix sum.
@@ -50,7 +50,7 @@ pub(crate) fn answer(refusal: u32, words: &[u64], sums: &[u64], filled: usize) {
     if refusal == 0 {
         all(words);
         text(b" of");
-        number(test_cases::word_at(sums, std::num::wrapping_sub_usize(filled, 1)));
+        number(test_lines::word_at(sums, std::num::wrapping_sub_usize(filled, 1)));
     } else {
         text(b" refused");
         number(refusal as u64);
@@ -63,6 +63,6 @@ pub(crate) fn answer(refusal: u32, words: &[u64], sums: &[u64], filled: usize) {
 pub(crate) fn entries(changed: u64, ledger: &[u64]) {
     number(changed);
     text(b",");
-    number(test_cases::word_at(ledger, 0));
+    number(test_lines::word_at(ledger, 0));
     text(b" entries");
 }

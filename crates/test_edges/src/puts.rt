@@ -22,21 +22,21 @@ fn by_value(grid: Grid, line: &[u64], after: &mut [u64]) -> u32 {
         grid.lon_step,
         grid.lat_step,
         after,
-        test_cases::short_at(line, 3),
-        test_cases::short_at(line, 4),
-        test_cases::short_at(line, 5),
-        test_cases::word_at(line, 6),
+        test_lines::short_at(line, 3),
+        test_lines::short_at(line, 4),
+        test_lines::short_at(line, 5),
+        test_lines::word_at(line, 6),
     )
 }
 
 fn by_lending(grid: Grid, line: &[u64], before: &[u64], after: &mut [u64]) -> u32 {
     let cell = Cell {
-        row: Row(test_cases::short_at(line, 4)),
-        col: Col(test_cases::short_at(line, 5)),
+        row: Row(test_lines::short_at(line, 4)),
+        col: Col(test_lines::short_at(line, 5)),
     };
     let entry = Entry {
-        km: RadiusKm(test_cases::short_at(line, 3)),
-        centre: Candidate::at(cell, test_cases::word_at(line, 6)),
+        km: RadiusKm(test_lines::short_at(line, 3)),
+        centre: Candidate::at(cell, test_lines::word_at(line, 6)),
     };
     if after.len() != test_cases::LEDGER_WORDS {
         return UNPLAYED;
@@ -52,9 +52,9 @@ fn by_lending(grid: Grid, line: &[u64], before: &[u64], after: &mut [u64]) -> u3
 
 // The number returned; and among the words that have changed the entry's own, which stand where they are owed.
 fn say(refusal: u32, line: &[u64], before: &[u64], after: &[u64]) {
-    let from = test_cases::word_at(line, 0) as usize;
-    let by = test_cases::word_at(line, 2) as usize;
-    let own = test_cases::differing(line, 3, after, from, by);
+    let from = test_lines::word_at(line, 0) as usize;
+    let by = test_lines::word_at(line, 2) as usize;
+    let own = test_lines::differing(line, 3, after, from, by);
     let strays = ledgers::strayed(refusal, line, before, after);
     print::number(refusal as u64);
     print::text(b", changed");
@@ -65,7 +65,7 @@ fn say(refusal: u32, line: &[u64], before: &[u64], after: &[u64]) {
 pub(crate) fn put(map: Map, line: &[u64], before: &[u64]) {
     let grid = map.grid;
     let mut after = [0u64; test_cases::LEDGER_WORDS];
-    test_cases::copy(before, &mut after, 0);
+    test_lines::copy(before, &mut after, 0);
     print::text(b":");
     let refusal = by_value(grid, line, &mut after);
     say(refusal, line, before, &after);

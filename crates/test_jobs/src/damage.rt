@@ -32,8 +32,8 @@ fn tallied(tally: Tally, number: u8) -> Tally {
 
 // The number of a refusal's line, of one or two digits.
 fn refusal_of(line: &[u8]) -> u8 {
-    let first = test_cases::byte_at(line, 8, 0) % 16;
-    let second = test_cases::byte_at(line, 9, 0);
+    let first = test_lines::byte_at(line, 8, 0) % 16;
+    let second = test_lines::byte_at(line, 9, 0);
     if second == b'\n' {
         return first;
     }
@@ -42,11 +42,11 @@ fn refusal_of(line: &[u8]) -> u8 {
 
 // 0 for the line of an answer, the number of a refusal's, 31 for any other.
 fn number_of(line: &[u8]) -> u8 {
-    let first = test_cases::byte_at(line, 0, 0);
+    let first = test_lines::byte_at(line, 0, 0);
     if line.len() == 0 {
         return NOT_LINES;
     }
-    if test_cases::byte_at(line, line.len() - 1, 0) != b'\n' {
+    if test_lines::byte_at(line, line.len() - 1, 0) != b'\n' {
         return NOT_LINES;
     }
     if first == b'm' || first == b'l' {
@@ -66,7 +66,7 @@ fn number_of_all(printed: &[u8]) -> u8 {
         if number != 0 {
             return NOT_LINES;
         }
-        let next = test_cases::after_line(printed, at);
+        let next = test_lines::after_line(printed, at);
         number = number_of(&printed[at..next]);
         at = next;
     }
@@ -115,7 +115,7 @@ fn set_byte(job: &mut [u8], at: usize, b: u8) {
 }
 
 fn changed_at(tally: Tally, job: &mut [u8], at: usize, printed: &mut [u8]) -> Tally {
-    let old = test_cases::byte_at(job, at, 0);
+    let old = test_lines::byte_at(job, at, 0);
     let mut out = tally;
     let mut which: u8 = 0;
     while which < VALUES {

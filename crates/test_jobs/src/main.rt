@@ -79,7 +79,7 @@ fn line_played(
     printed: &mut [u8],
     damages: bool,
 ) -> Score {
-    if test_cases::byte_at(list, at, 0) != b'J' {
+    if test_lines::byte_at(list, at, 0) != b'J' {
         return score;
     }
     if next < at || list.len() < next {
@@ -96,7 +96,7 @@ fn played(list: &[u8], job: &mut [u8], printed: &mut [u8], damages: bool) -> Sco
     let mut score = fresh();
     let mut at: usize = 0;
     while at < list.len() {
-        let next = test_cases::after_line(list, at);
+        let next = test_lines::after_line(list, at);
         score = line_played(score, list, at, next, job, printed, damages);
         at = next;
     }
@@ -115,7 +115,7 @@ fn read_list(name: &[u8], damages: bool) -> Score {
     let mut list = list_buffer();
     let mut job = io::large_buffer();
     let mut printed = printed_buffer();
-    let n = test_cases::read(name, &mut list);
+    let n = test_lines::read(name, &mut list);
     played(&list[..n], &mut job, &mut printed, damages)
 }
 

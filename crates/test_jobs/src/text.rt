@@ -92,12 +92,12 @@ pub(crate) fn decoded(line: &[u8], out: &mut [u8]) -> usize {
 pub(crate) fn goes_on_with(text: &[u8], at: usize, printed: &[u8], count: usize) -> bool {
     let mut i: usize = 0;
     while i < count {
-        if test_cases::byte_at(text, at, i) != test_cases::byte_at(printed, 0, i) {
+        if test_lines::byte_at(text, at, i) != test_lines::byte_at(printed, 0, i) {
             return false;
         }
         i += 1;
     }
-    !is_line(test_cases::byte_at(text, at, count))
+    !is_line(test_lines::byte_at(text, at, count))
 }
 
 // What the lines of a job begin with: most, least, refused.

@@ -44,7 +44,7 @@ fn is_whole(tag: u8, line: &[u64]) -> bool {
         b'G' => n == 5,
         b'M' => n == 11,
         b'R' => n == 27,
-        b'L' | b'E' => n == entries(test_cases::word_at(line, 0)),
+        b'L' | b'E' => n == entries(test_lines::word_at(line, 0)),
         _ => false,
     }
 }
@@ -70,7 +70,7 @@ fn played(
     let agrees = play::agrees(tag, line, map, counts, angles, cosines, ledger);
     Replay {
         map: test_cases::set(map, tag, line, counts, angles, cosines),
-        score: score::scored(score, tag, agrees, test_cases::word_at(line, 0)),
+        score: score::scored(score, tag, agrees, test_lines::word_at(line, 0)),
     }
 }
 
@@ -83,8 +83,8 @@ fn line_played(
     ledger: &mut [u64; test_cases::LEDGER_WORDS],
 ) -> Replay {
     let mut numbers = [0u64; NUMBERS];
-    let read = test_cases::numbers_of(text, &mut numbers);
-    let line = test_cases::first_words(&numbers, read.count);
+    let read = test_lines::numbers_of(text, &mut numbers);
+    let line = test_lines::first_words(&numbers, read.count);
     played(state, read.tag, line, counts, angles, cosines, ledger)
 }
 
@@ -101,7 +101,7 @@ fn all_played(
     };
     let mut at: usize = 0;
     while at < list.len() {
-        let next = test_cases::after_line(list, at);
+        let next = test_lines::after_line(list, at);
         state = line_played(state, &list[at..next], counts, angles, cosines, ledger);
         at = next;
     }
@@ -118,7 +118,7 @@ fn replayed() -> Score {
     let mut angles = [0.0f64; ANGLES];
     let mut cosines = [0.0f64; ROWS];
     let mut ledger = [0u64; test_cases::LEDGER_WORDS];
-    let n = test_cases::read(b"answers.txt", &mut list);
+    let n = test_lines::read(b"answers.txt", &mut list);
     all_played(
         &list[..n],
         &mut counts,

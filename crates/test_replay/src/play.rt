@@ -30,20 +30,20 @@ fn circle(
     if number != 0 {
         return number == listed;
     }
-    listed == 0 && population == test_cases::word_at(line, 3)
+    listed == 0 && population == test_lines::word_at(line, 3)
 }
 
 // S: km; the automatic spacing.
 fn spacing(line: &[u64], map: Map) -> bool {
-    let km = test_cases::short_at(line, 0) as f64;
-    bounds::initial_spacing(map.grid, km) as u64 == test_cases::word_at(line, 1)
+    let km = test_lines::short_at(line, 0) as f64;
+    spacing::initial_spacing(map.grid, km) as u64 == test_lines::word_at(line, 1)
 }
 
 fn found_agrees(line: &[u64], words: &[u64; 10], tolerance: f64) -> bool {
-    if test_cases::bits_of(tolerance) != test_cases::word_at(line, 10) {
+    if test_lines::bits_of(tolerance) != test_lines::word_at(line, 10) {
         return false;
     }
-    test_cases::differing(words, 0, line, 2, 8) == 0
+    test_lines::differing(words, 0, line, 2, 8) == 0
 }
 
 // M: spacing, 0 for the automatic one, km; centre, counts, tolerance.
@@ -60,8 +60,8 @@ fn search(
     let mut following = [0u64; BLOCKS];
     let mut words = [0u64; 10];
     let mut tolerance = 0.0;
-    let side = test_cases::short_at(line, 0);
-    let km = test_cases::short_at(line, 1);
+    let side = test_lines::short_at(line, 0);
+    let km = test_lines::short_at(line, 1);
     let number = test_cases::search(
         map,
         counts,
@@ -89,20 +89,20 @@ fn in_order(w: &[u64; 19], f: &[f64; 6]) -> [u64; 25] {
         w[1],
         w[2],
         w[3],
-        test_cases::bits_of(f[0]),
-        test_cases::bits_of(f[1]),
-        test_cases::bits_of(f[2]),
-        test_cases::bits_of(f[3]),
+        test_lines::bits_of(f[0]),
+        test_lines::bits_of(f[1]),
+        test_lines::bits_of(f[2]),
+        test_lines::bits_of(f[3]),
         w[4],
         w[5],
         w[6],
         w[7],
-        test_cases::bits_of(f[4]),
+        test_lines::bits_of(f[4]),
         w[8],
         w[9],
         w[10],
         w[11],
-        test_cases::bits_of(f[5]),
+        test_lines::bits_of(f[5]),
         w[12],
         w[13],
         w[14],
@@ -128,8 +128,8 @@ fn smallest(
     let mut following = [0u64; BLOCKS];
     let mut words = [0u64; 19];
     let mut floats = [0.0f64; 6];
-    let side = test_cases::short_at(line, 0);
-    let share = test_cases::float_at(line, 1);
+    let side = test_lines::short_at(line, 0);
+    let share = test_lines::float_at(line, 1);
     let number = test_cases::smallest(
         map,
         counts,
@@ -149,7 +149,7 @@ fn smallest(
         return number == listed;
     }
     let answer = in_order(&words, &floats);
-    listed == 0 && test_cases::differing(&answer, 0, line, 2, 25) == 0
+    listed == 0 && test_lines::differing(&answer, 0, line, 2, 25) == 0
 }
 
 // What leaves the ledger as it is. E: the ledger after the last smallest radius. A line that only sets the map agrees.
@@ -166,7 +166,7 @@ fn agrees_with(
         b'P' => circle(line, map, counts, angles, cosines, 0),
         b'S' => spacing(line, map),
         b'M' => search(line, map, counts, angles, cosines, 0),
-        b'E' => test_cases::differing(ledger, 0, line, 0, line.len()) == 0,
+        b'E' => test_lines::differing(ledger, 0, line, 0, line.len()) == 0,
         _ => true,
     }
 }
@@ -182,14 +182,14 @@ pub(crate) fn agrees(
     ledger: &mut [u64],
 ) -> bool {
     if tag == b'L' {
-        test_cases::copy(line, ledger, 0);
+        test_lines::copy(line, ledger, 0);
         return true;
     }
     if tag == b'R' {
         return smallest(line, map, counts, angles, cosines, ledger, 0);
     }
     if tag == b'Q' {
-        let listed = test_cases::short_at(line, 0);
+        let listed = test_lines::short_at(line, 0);
         if !smallest(line, map, counts, angles, cosines, ledger, listed) {
             return false;
         }

@@ -5,7 +5,7 @@ use native.Mathlib.Omega.{arith}
 use mathlib.Core.Path.{_≡_}
 use lib.ListN.{length}
 use Rattle.job_world.specs.State.{stateOf}
-use Rattle.job_step.specs.Job.{mostBytes}
+use Rattle.job_rules.specs.Job.{mostBytes}
 use Rattle.job_output.proofs.Running.{Under, under-none, under-more, under-ended, under-all}
 use Rattle.job_output.proofs.run_steps.Statement.{statement}
 use Rattle.job_output.proofs.run_steps.Tie as tie

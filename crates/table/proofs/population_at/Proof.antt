@@ -28,7 +28,7 @@ use Rattle.hand_proofs.proofs.Walks.{_≡_, refl, ℕ, [], _∷_, List, URA, er
 use Rattle.hand_proofs.proofs.Walks.{Given, ‵, raw, given, later, _⊛_, _$_, _∵_, !, qed, by, move, use1, use2, split, join, fsplit3, fjoin3, learn, await, done, look, init, stop, from, and-then, no-more, land, returns, enter, alloc1, alloc0, params1, pass1, pass0, free0, nothing, calls-at}
 use Rattle.hand_proofs.proofs.Walks.{local, arg, packs, gone, hands, told, structLaw, met}
 use Rattle.table.proofs.Parts.{gridVal, sumsVal, SumsT, Tok, gridLaw, sumsLaw}
-use Rattle.table.proofs.Made.{Making, making, made, TableIs, to-make, to-ask, given-table}
+use Rattle.table.proofs.Made.{Making, making, made, TableIs, to-ask, given-table}
 use Rattle.table.proofs.population_at.Key.{name as #table·population-at}
 use Rattle.table.proofs.population_at as self
 use Rattle.table.proofs.population_at.Statement as stated

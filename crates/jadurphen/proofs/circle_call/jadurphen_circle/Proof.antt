@@ -1,6 +1,6 @@
 -- What the call gave, by its two cases.
 use borrow.Author.Needs.{needs}
-use Rattle.jadurphen.proofs.Crossings.{circle-answered, circle-refused}
+use Rattle.crossings.proofs.Crossings.{circle-answered, circle-refused}
 use Rattle.jadurphen.proofs.circle_call.jadurphen_circle.Statement.{statement}
 use Rattle.jadurphen.proofs.circle_call.jadurphen_circle.Tie as tie
 

@@ -1,5 +1,5 @@
 -- What the call gave, by its two cases; an answer was read from words that fit.
-use Rattle.jadurphen.proofs.Crossings.{put-fits, put-done, put-refused}
+use Rattle.crossings.proofs.Crossings.{put-fits, put-done, put-refused}
 use borrow.Author.Needs.{needs}
 use Rattle.jadurphen.proofs.put_call.jadurphen_put.Statement.{statement}
 use Rattle.jadurphen.proofs.put_call.jadurphen_put.Tie as tie

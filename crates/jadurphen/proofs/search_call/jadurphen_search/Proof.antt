@@ -1,5 +1,5 @@
 -- What the call gave, by its two cases.
-use Rattle.jadurphen.proofs.Crossings.{search-found, search-refused}
+use Rattle.crossings.proofs.Crossings.{search-found, search-refused}
 use borrow.Author.Needs.{needs}
 use Rattle.jadurphen.proofs.search_call.jadurphen_search.Statement.{statement}
 use Rattle.jadurphen.proofs.search_call.jadurphen_search.Tie as tie

@@ -1,5 +1,5 @@
 -- What the call gave, by its two cases; an answer was read from words that fit.
-use Rattle.jadurphen.proofs.SmallestCrossings.{smallest-fits, smallest-found, smallest-refused}
+use Rattle.crossings.proofs.SmallestCrossings.{smallest-fits, smallest-found, smallest-refused}
 use borrow.Author.Needs.{needs}
 use Rattle.jadurphen.proofs.smallest_call.jadurphen_smallest.Statement.{statement}
 use Rattle.jadurphen.proofs.smallest_call.jadurphen_smallest.Tie as tie

@@ -1,6 +1,6 @@
 -- A spacing of 0 is automatic.
 use Rattle.job_step.proofs.Lent.{spacing-cells}
-use Rattle.job_step.specs.Apply.{jobSpacing}
+use Rattle.job_rules.specs.Apply.{jobSpacing}
 use Rattle.job_step.proofs.calls.spacing_of.Statement.{statement}
 use Rattle.job_step.proofs.calls.spacing_of.Tie as tie
 

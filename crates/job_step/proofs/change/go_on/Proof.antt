@@ -1,6 +1,6 @@
 -- What goes on, by its fields.
 use mathlib.Core.Path.{refl}
-use Rattle.job_step.specs.State.{goneOn}
+use Rattle.job_rules.specs.State.{goneOn}
 use Rattle.job_step.proofs.change.go_on.Statement.{statement}
 use Rattle.job_step.proofs.change.go_on.Tie as tie
 

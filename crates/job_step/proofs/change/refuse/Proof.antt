@@ -1,5 +1,5 @@
 -- A refusal keeps the state and prints its number.
-use Rattle.job_step.specs.State.{refusedIn}
+use Rattle.job_rules.specs.State.{refusedIn}
 use borrow.Author.Needs.{needs}
 use Rattle.job_step.proofs.change.refuse.Statement.{statement}
 use Rattle.job_step.proofs.change.refuse.Tie as tie

@@ -2,7 +2,7 @@
 use mathlib.Core.Path.{ap}
 use lib.ListN.{replicate}
 use Rattle.floats.proofs.Literals.{literal-1}
-use Rattle.job_world.specs.World.{jobRows}
+use Rattle.job_sizes.specs.Sizes.{jobRows}
 use Rattle.job_world.proofs.state.unit_cosines.Statement.{statement}
 use Rattle.job_world.proofs.state.unit_cosines.Tie as tie
 

@@ -4,7 +4,7 @@ use Prim.Native.Nat.{ℕ}
 use mathlib.Core.Path.{_≡_, _∙_, ap}
 use lib.ListN.{set}
 use Rattle.grid.specs.Map.{sheetIndex}
-use Rattle.job_world.specs.World.{jobAngles}
+use Rattle.job_sizes.specs.Sizes.{jobAngles}
 use Rattle.job_world.specs.State.{angleState}
 use Rattle.job_world.proofs.Maps.{set-min}
 use Rattle.job_world.proofs.Whole.{angles-whole}

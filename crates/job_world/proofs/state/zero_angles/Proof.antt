@@ -2,7 +2,7 @@
 use mathlib.Core.Path.{ap}
 use lib.ListN.{replicate}
 use Rattle.floats.proofs.Literals.{literal-0}
-use Rattle.job_world.specs.World.{jobAngles}
+use Rattle.job_sizes.specs.Sizes.{jobAngles}
 use Rattle.job_world.proofs.state.zero_angles.Statement.{statement}
 use Rattle.job_world.proofs.state.zero_angles.Tie as tie
 

@@ -1,10 +1,10 @@
 -- `kernel::band::build`: the empty kernel at radius 0, and otherwise what the two walks and the marking of runs leave.
 use mathlib.Core.Path.{refl, _∙_}
 use denote.Ref.{now}
-use Rattle.floats.proofs.Literals.{literal-0}
+use mathlib.Core.Bool.{true, false}
 use Rattle.grid.specs.Map.{sheetOf}
-use Rattle.kernel.proofs.Reaches.{sheet-high, sheet-beyond}
-use Rattle.kernel.proofs.Built.{built-empty, built-outline, built-walked}
+use Rattle.reach.proofs.Reaches.{sheet-high, sheet-beyond}
+use Rattle.kernel.proofs.Built.{zero-test, built-empty, built-outline, built-walked}
 use borrow.Author.Needs.{needs}
 use Rattle.kernel.proofs.band.build.Statement.{statement}
 use Rattle.kernel.proofs.band.build.Tie as tie
@@ -24,7 +24,7 @@ returns : tie.Need-returns
 returns c =
     let st = c .before .before in
     let a = st .args in
-    built-empty (sheetOf (a .grid) (now (a .angles))) (a .row) (a .km) (sheet-high (st .pre .sheet)) (st .pre .on) (rw literal-0 at (c .if1 .taken))
+    built-empty (sheetOf (a .grid) (now (a .angles))) (a .row) (a .km) (sheet-high (st .pre .sheet)) (st .pre .on) (zero-test (a .km) true (c .if1 .taken))
 
 angle-of-requires : tie.Need-angle-of-requires
 angle-of-requires c κs = search needs
@@ -56,7 +56,7 @@ mark-requires c κs =
     let p = st w .pre in
     let a = st w .args in (
       built-outline (sheetOf (a .grid) (now (a .angles))) (a .row) (a .km) (sheet-high (p .sheet)) (p .on)
-          (rw literal-0 at (limit w .before .if1 .left)) (limit w .angle-of .ensures) (sheet-beyond (p .sheet) (a .row) (p .on) (limit w .angle-of .result))
+          (zero-test (a .km) false (limit w .before .if1 .left)) (limit w .angle-of .ensures) (sheet-beyond (p .sheet) (a .row) (p .on) (limit w .angle-of .result))
           (north w .walk-north .ensures) (w .walk-south .ensures) (w .walk-south .kept .1 .1 .1 .1 .1 .0 ∙ north w .walk-north .kept .1 .1 .1 .1 .1 .0),
       refl,
     )
@@ -68,7 +68,7 @@ returns-2 c =
     let p = st w .pre in
     let a = st w .args in
     built-walked (sheetOf (a .grid) (now (a .angles))) (a .row) (a .km) (sheet-high (p .sheet)) (p .on)
-    (rw literal-0 at (limit w .before .if1 .left)) (limit w .angle-of .ensures) (sheet-beyond (p .sheet) (a .row) (p .on) (limit w .angle-of .result))
+    (zero-test (a .km) false (limit w .before .if1 .left)) (limit w .angle-of .ensures) (sheet-beyond (p .sheet) (a .row) (p .on) (limit w .angle-of .result))
     (north w .walk-north .ensures) (w .walk-south .ensures) (k .ensures) (w .walk-south .kept .1 .1 .1 .1 .1 .0 ∙ north w .walk-north .kept .1 .1 .1 .1 .1 .0) (k .kept .1 .1 .1 .0)
 
 pub build-spec : {M : Type 1} → statement M

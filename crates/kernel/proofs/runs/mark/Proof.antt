@@ -6,9 +6,10 @@ use denote.Ref.{now}
 use lib.Dec.{eqb}
 use lib.ListN.{length, getD, length-set}
 use Rattle.lists.proofs.Bools.{cond-case}
-use Rattle.kernel.specs.Kernel.{rowPlaces}
-use Rattle.kernel.specs.State.{Filled, runIn}
-use Rattle.kernel.proofs.Walks.{filled-none, filled-before}
+use Rattle.reach.specs.Reach.{rowPlaces}
+use Rattle.reach.specs.State.{Filled}
+use Rattle.kernel.specs.State.{runIn}
+use Rattle.reach.proofs.Walks.{filled-none, filled-before}
 use Rattle.kernel.proofs.RowRuns.{run-next, run-onward}
 use borrow.Author.Needs.{needs}
 use Rattle.kernel.proofs.runs.mark.Statement.{statement}

@@ -29,13 +29,13 @@ module _ (c : tie.After-wide2 Inv-loop μ-loop) where
   taken = c .before .before .before .before .loop-test .taken
 
   onward : l .loop .row < c .wide2 .result
-  onward = omega (arith, c .wide2 .ensures, st .pre .runs .onward (l .loop .row) (l .loop .inv .0) taken)
+  onward = omega (arith, c .wide2 .ensures .0, st .pre .runs .onward (l .loop .row) (l .loop .inv .0) taken)
 
   within : c .wide2 .result ≤ st .args .end
-  within = omega (arith, c .wide2 .ensures, st .pre .runs .within (l .loop .row) (l .loop .inv .0) taken)
+  within = omega (arith, c .wide2 .ensures .0, st .pre .runs .within (l .loop .row) (l .loop .inv .0) taken)
 
   touched : 0 < c .before .before .wide .result
-  touched = omega (arith, c .before .before .wide .ensures, st .pre .band .touched (l .loop .row) (l .loop .inv .0) taken)
+  touched = omega (arith, c .before .before .wide .ensures .0, st .pre .band .touched (l .loop .row) (l .loop .inv .0) taken)
 
 -- a turn adds the people of its run
 next : (c : tie.After-band-span Inv-loop μ-loop) → let a = st (c .before) .args in
@@ -49,7 +49,7 @@ next c =
     let run =
     people-run (tableMap (a .grid) (now (a .sums))) (a .col) (now (a .reach)) (l .row) (w .wide2 .result) (w .before .before .wide .result)
     (onward w) (omega (arith, within w, p .band .on)) (touched w)
-    (λ i h u. p .runs .alike (l .row) (l .inv .0) (taken w) i h (omega (arith, w .wide2 .ensures)) ∙ sym (w .before .before .wide .ensures)) in
+    (λ i h u. p .runs .alike (l .row) (l .inv .0) (taken w) i h (omega (arith, w .wide2 .ensures .0)) ∙ sym (w .before .before .wide .ensures .0)) in
     omega (arith, l .inv .2, c .band-span .ensures, run)
 
 loop-holds : tie.Need-loop-holds Inv-loop μ-loop
@@ -84,7 +84,10 @@ sub-band-span-2 c = touched c
 
 band-span-requires : tie.Need-band-span-requires Inv-loop μ-loop
 band-span-requires c κs =
-    (st c .pre .table, record { ordered = omega (arith, onward c); south = omega (arith, onward c, within c, st c .pre .band .on); col = st c .pre .on })
+    let small = c .before .before .wide .ensures .1 in (
+      st c .pre .table,
+      record { ordered = omega (arith, onward c); south = omega (arith, onward c, within c, st c .pre .band .on); col = st c .pre .on; half = omega (arith, small) },
+    )
 
 add-population : tie.Need-add-population Inv-loop μ-loop
 add-population c =

@@ -8,7 +8,7 @@ use lib.ListN.{getD}
 use Rattle.lists.specs.Counted.{allBelow}
 use Rattle.lists.proofs.All.{all-none, all-more}
 use Rattle.grid.proofs.Sizes.{grid-sizes}
-use Rattle.kernel.specs.Kernel.{rowPlaces}
+use Rattle.reach.specs.Reach.{rowPlaces}
 use Rattle.kernel.proofs.WholeGrid.{covers-yes, covers-no}
 use borrow.Author.Needs.{needs}
 use Rattle.kernel_sums.proofs.cover.covers.Statement.{statement}

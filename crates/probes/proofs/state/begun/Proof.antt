@@ -1,7 +1,7 @@
 -- The counts and the candidate by their makers.
 use borrow.Author.Needs.{needs}
 use Rattle.candidates.specs.Candidate.{northWest}
-use Rattle.levels.specs.Level.{noStats}
+use Rattle.tally.specs.Counts.{noStats}
 use Rattle.probes.specs.State.{runBegun}
 use Rattle.probes.proofs.state.begun.Statement.{statement}
 use Rattle.probes.proofs.state.begun.Tie as tie

@@ -1,18 +1,15 @@
 -- `run::runs::run`. Invariant: what is left from the bracket is the whole run, and state and ledger track the probes made; each probe is one of the most radii.
-use Prim.Native.Nat.{ℕ, _+_, _-_}
+use Prim.Native.Nat.{_+_, _-_}
 use mathlib.Core.Path.{_≡_, refl, sym, ap, _∙_}
 use mathlib.Core.Bool.{false}
 use mathlib.Core.Logic.{⊎-elim}
-use native.Mathlib.Omega.{arith}
 use lib.ListN.{length}
 use denote.Ref.{now}
 use borrow.Author.Needs.{needs}
 use borrow.Author.Tests.{not-true, not-false}
-use Rattle.grid.specs.Grid.{ceiling}
-use Rattle.grid.proofs.Body.{ceiling-least}
 use Rattle.levels.specs.State.{summedMap}
+use Rattle.climb.specs.Climb.{mostRadii}
 use Rattle.climb.specs.State.{bracketClosed}
-use Rattle.probes.specs.Probes.{mostRadii}
 use Rattle.probes.specs.State.{probeCount}
 use Rattle.probes.proofs.Probes.{ProbedTo, after-reuse, after-search}
 use Rattle.run.proofs.RunLoop.{Running, Looping, loop-starts, loop-searches, loop-reuses, loop-puts, loop-evaluates, loop-fits, loop-goes-on, loop-falls, loop-ends}
@@ -20,20 +17,17 @@ use Rattle.run.proofs.runs.run.Statement.{statement}
 use Rattle.run.proofs.runs.run.Tie as tie
 
 abbrev Inv-loop : tie.InvT-loop
-Inv-loop grid angles cosines sums current₀ following₀ spacing slack total last persons state₀ held₀ bracket₀ current following state held bracket =
+Inv-loop grid angles cosines sums current₀ following₀ spacing slack total persons state₀ held₀ bracket₀ current following state held bracket =
     Running (summedMap grid angles cosines sums) spacing persons slack total held₀ held state bracket × (length current ≡ length current₀) × (length following ≡ length following₀)
 
 abbrev μ-loop : tie.MeasureT-loop
-μ-loop grid angles cosines sums current₀ following₀ spacing slack total last persons state₀ held₀ bracket₀ current following state held bracket =
+μ-loop grid angles cosines sums current₀ following₀ spacing slack total persons state₀ held₀ bracket₀ current following state held bracket =
     mostRadii - probeCount state
 
--- ---- places: the ceiling, the first bracket, the loop, and a turn where its radius is known
-
-abbrev given : tie.After-ceiling Inv-loop μ-loop → tie.Start Inv-loop μ-loop
-given c = c .before .before .before .before .before .before
+-- ---- places: the first bracket, the loop, and a turn where its radius is known
 
 abbrev start : tie.After-start Inv-loop μ-loop → tie.Start Inv-loop μ-loop
-start f = given (f .before .before)
+start f = f .before .before .before .before .before .before .before
 
 abbrev head : tie.After-radius Inv-loop μ-loop → tie.At-loop Inv-loop μ-loop
 head r = r .before .before .before
@@ -50,16 +44,6 @@ searched e = e .before .before .before .before .before
 
 opened : (r : tie.After-radius Inv-loop μ-loop) → bracketClosed (head r .loop .bracket) ≡ false
 opened r = sym (r .before .before .closed .ensures) ∙ not-true _ (r .before .if1 .taken)
-
--- the last radius of the climb is the kilometre below the ceiling
-last-is : (r : tie.After-radius Inv-loop μ-loop) → head r .before .before .before .ceiling .result - 1 ≡ ceiling (told r .args .grid) - 1
-last-is r = ap (λ (n : ℕ). n - 1) (head r .before .before .before .ceiling .ensures)
-
-ceiling-requires : tie.Need-ceiling-requires Inv-loop μ-loop
-ceiling-requires c κs = search needs
-
-sub-t21 : tie.Need-sub-t21 Inv-loop μ-loop
-sub-t21 c = omega (arith, c .ceiling .ensures, ceiling-least (given c .args .grid))
 
 begun-requires : tie.Need-begun-requires Inv-loop μ-loop
 begun-requires c κs = search needs
@@ -142,7 +126,7 @@ following-kept c = ⊎-elim (λ w. ap length (w .5)) (λ w. ap length (w .13) �
 next-requires : tie.Need-next-requires Inv-loop μ-loop
 next-requires c κs =
     let r = c .before .before in
-    loop-fits (told r .pre) (told r .args .spacing) (head r .loop .inv .0) (opened r) (last-is r)
+    loop-fits (told r .pre) (told r .args .spacing) (head r .loop .inv .0) (opened r)
 
 -- one probe on
 next : (c : tie.After-next Inv-loop μ-loop)
@@ -151,7 +135,7 @@ next : (c : tie.After-next Inv-loop μ-loop)
     × (probeCount (c .before .match .state) ≡ probeCount (head r .loop .state) + 1)
 next c =
     let r = c .before .before .before in
-    loop-goes-on (told r .pre) (told r .args .spacing) (head r .loop .inv .0) (opened r) (r .radius .ensures) (last-is r) (probed (c .before)) (c .next .ensures)
+    loop-goes-on (told r .pre) (told r .args .spacing) (head r .loop .inv .0) (opened r) (r .radius .ensures) (probed (c .before)) (c .next .ensures)
 
 loop-less : tie.Need-loop-less Inv-loop μ-loop
 loop-less c =
@@ -183,8 +167,6 @@ run-spec =
     (tie.spec
     Inv-loop
     μ-loop
-    ceiling-requires
-    sub-t21
     begun-requires
     start-requires
     loop-holds

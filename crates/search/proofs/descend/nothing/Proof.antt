@@ -1,5 +1,5 @@
 -- `search::descend::nothing`: nothing held, every count 0.
-use Rattle.levels.specs.Level.{noTally, noStats}
+use Rattle.tally.specs.Counts.{noTally, noStats}
 use borrow.Author.Needs.{needs}
 use Rattle.search.proofs.descend.nothing.Statement.{statement}
 use Rattle.search.proofs.descend.nothing.Tie as tie

@@ -1,6 +1,6 @@
 -- `smallest::call::settle`: the total, the target and the slack, the run, and the answer from its end.
 use borrow.Author.Needs.{needs}
-use Rattle.smallest.proofs.SmallestCalls.{can-run, can-conclude, is-settled}
+use Rattle.smallest.proofs.Settling.{can-run, can-conclude, is-settled}
 use Rattle.smallest.proofs.call.settle.Statement.{statement}
 use Rattle.smallest.proofs.call.settle.Tie as tie
 
@@ -32,8 +32,7 @@ conclude-requires : tie.Need-conclude-requires
 conclude-requires c κs =
     let r = ended c in
     let k = known r in
-    can-conclude (start k .pre) (start k .args .spacing) (k .before .before .whole-at .ensures) (k .before .target-of .ensures) (k .predicate-slack-persons .ensures) (r .run .ensures .0)
-    (r .run .ensures .1)
+    can-conclude (start k .pre) (start k .args .spacing) (k .before .before .whole-at .ensures) (k .before .target-of .ensures) (k .predicate-slack-persons .ensures) (r .run .ensures)
 
 same-length : tie.Need-same-length
 same-length c = search needs
@@ -45,7 +44,7 @@ returns : tie.Need-returns
 returns c =
     let r = ended (c .before .before) in
     let k = known r in
-    is-settled (start k .pre) (start k .args .spacing) (k .before .before .whole-at .ensures) (k .before .target-of .ensures) (k .predicate-slack-persons .ensures) (r .run .ensures .0)
+    is-settled (start k .pre) (start k .args .spacing) (k .before .before .whole-at .ensures) (k .before .target-of .ensures) (k .predicate-slack-persons .ensures) (r .run .ensures)
     (c .before .conclude .ensures)
 
 pub settle-spec : {M : Type 1} → statement M

@@ -2,13 +2,14 @@
 use mathlib.Core.Path.{_≡_, sym, _∙_}
 use denote.Ref.{now}
 use borrow.Author.Needs.{needs}
-use Rattle.grid.specs.Answer.{firstNo, shown}
+use Rattle.grid.specs.Answer.{firstNo}
 use Rattle.grid.specs.Map.{Map, lentMap}
 use Rattle.grid.proofs.Answers.{PassedCall}
 use Rattle.sums.proofs.Tables.{bare-filled}
-use Rattle.search.specs.Call.{Buffers, buffers}
-use Rattle.smallest.specs.Call.{smallestOwn, smallestQuestions, smallestAnswer}
-use Rattle.smallest.proofs.SmallestCalls.{smallest-passed, smallest-refused, smallest-answered, to-fill, to-settle, settled-map}
+use Rattle.smallest_rules.specs.Call.{smallestOwn, smallestQuestions}
+use Rattle.smallest_rules.proofs.SmallestCalls.{smallest-passed, smallest-refused, smallest-answered}
+use Rattle.smallest.proofs.Settling.{to-fill, to-settle, settled-map}
+use Rattle.most_populous.specs.Call.{Buffers, buffers}
 use Rattle.smallest.proofs.call.smallest_radius.Statement.{statement}
 use Rattle.smallest.proofs.call.smallest_radius.Tie as tie
 
@@ -48,7 +49,6 @@ same-length-3 : tie.Need-same-length-3
 same-length-3 c = search needs
 
 returns : tie.Need-returns
-unfolding smallestAnswer shown
 returns c =
     let asked = c .before .smallest-refusal in
     smallest-refused _ _ _ _ _ (asked .result) (asked .ensures) (c .if1 .taken)

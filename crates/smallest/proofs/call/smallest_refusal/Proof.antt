@@ -6,8 +6,8 @@ use Rattle.grid.specs.Map.{lentMap}
 use Rattle.grid.specs.Answer.{firstNo}
 use Rattle.grid.specs.Questions.{mapQuestions}
 use Rattle.grid.proofs.General.{said-no, said-yes}
-use Rattle.grid.proofs.Answers.{asked-yes, asked-no, refused-before, after-map}
-use Rattle.smallest.specs.Call.{smallestQuestions}
+use Rattle.grid.proofs.Answers.{asked-yes, asked-no}
+use Rattle.smallest_rules.proofs.SmallestCalls.{map-refused, own-asked}
 use Rattle.smallest.proofs.call.smallest_refusal.Statement.{statement}
 use Rattle.smallest.proofs.call.smallest_refusal.Tie as tie
 
@@ -22,24 +22,21 @@ map-refusal-requires : tie.Need-map-refusal-requires
 map-refusal-requires c κs = search needs
 
 returns : tie.Need-returns
-unfolding smallestQuestions
-returns c = refused-before _ _ (c .before .map-refusal .ensures) (c .if1 .taken)
+returns c = map-refused _ _ _ _ _ (c .before .map-refusal .ensures) (c .if1 .taken)
 
 buffers-fit-requires : tie.Need-buffers-fit-requires
 buffers-fit-requires c κs = search needs
 
 returns-2 : tie.Need-returns-2
-unfolding smallestQuestions
-returns-2 c = after-map _ _ (map-yes (c .before .before)) (asked-no _ (said-no (c .before .buffers-fit .ensures) (c .if2 .taken)))
+returns-2 c = own-asked _ _ _ _ _ (map-yes (c .before .before)) (asked-no _ (said-no (c .before .buffers-fit .ensures) (c .if2 .taken)))
 
 own-refusal-requires : tie.Need-own-refusal-requires
 own-refusal-requires c κs = search needs
 
 returns-3 : tie.Need-returns-3
-unfolding smallestQuestions
 returns-3 c =
     let e = c .before in
-    after-map _ _ (map-yes (e .before .before)) (asked-yes 7 _ (said-yes (e .before .buffers-fit .ensures) (e .if2 .left)) (c .own-refusal .ensures))
+    own-asked _ _ _ _ _ (map-yes (e .before .before)) (asked-yes 7 _ (said-yes (e .before .buffers-fit .ensures) (e .if2 .left)) (c .own-refusal .ensures))
 
 pub smallest-refusal-spec : {M : Type 1} → statement M
 smallest-refusal-spec =

@@ -12,13 +12,13 @@ use lib.Ieee.{Float, eq}
 use Rattle.grid.specs.declared.Cell.{Cell}
 use Rattle.grid.specs.Map.{Map}
 use Rattle.sums.specs.State.{tableMap}
-use Rattle.kernel.specs.Circle.{population}
+use Rattle.circle_cells.specs.Circle.{population}
 use Rattle.kernel.specs.declared.Kernel.{Kernel}
 use Rattle.kernel.specs.Kernel.{kernelPopulation}
 use Rattle.kernel.specs.State.{KernelAt}
 use Rattle.kernel.specs.Requires.{CanSum}
 use Rattle.kernel.proofs.Placing.{rowsOf, kernel-own, kernel-kept}
-use Rattle.kernel.proofs.Populations.{same-population}
+use Rattle.circle_cells.proofs.Populations.{same-population}
 use Rattle.lists.proofs.Bools.{of-true}
 use Rattle.blocks.specs.declared.Block.{Block}
 use Rattle.blocks.specs.Block.{probe, Rectangle}
@@ -27,10 +27,11 @@ use Rattle.bounds.specs.State.{wideKernel}
 use Rattle.bounds.specs.Requires.{CanWiden}
 use Rattle.candidates.specs.declared.Held.{Held}
 use Rattle.levels.specs.Level.{examine, chunk}
-use Rattle.levels.specs.State.{blocksFrom, Swept, summedMap, Serves, workOf}
-use Rattle.blocks.specs.Requires.{CanSplit}
-use Rattle.levels.specs.declared.ChunkWork.{ChunkWork}
-use Rattle.levels.specs.Requires.{CanCount}
+use Rattle.levels.specs.State.{blocksFrom, Swept, summedMap, Serves}
+use Rattle.chunk_work.specs.State.{workOf}
+use Rattle.pieces.specs.Requires.{CanSplit}
+use Rattle.chunk_work.specs.declared.ChunkWork.{ChunkWork}
+use Rattle.chunk_work.specs.Requires.{CanCount}
 use Rattle.sweep.proofs.Serving.{wide-at, wide-radius, serves-none, serves-still, wide-now}
 use Rattle.levels.proofs.OneBlock.{ready-sheet, ready-cosines, probe-row, probe-placed, probe-people, not-asked, examined-is}
 use Rattle.sweep.proofs.Sweeps.{Sweeping, middle-on, start-held, start-own, sweep-start, next-rectangle, sweep-counts, sweep-room, sweep-next, sweep-done}

@@ -1,7 +1,7 @@
 -- What is lent, then the call.
 use denote.Ref.{now}
 use borrow.Author.Needs.{needs}
-use Rattle.test_cases.proofs.Words.{front-count}
+use Rattle.test_lines.proofs.Words.{front-count}
 use Rattle.test_cases.proofs.Fronts.{lent-arrays, circle-back}
 use Rattle.test_cases.proofs.calls.circle.Statement.{statement}
 use Rattle.test_cases.proofs.calls.circle.Tie as tie

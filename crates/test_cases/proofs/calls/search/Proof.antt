@@ -1,8 +1,8 @@
 -- What is lent, then the call.
 use denote.Ref.{now}
 use borrow.Author.Needs.{needs}
-use Rattle.search.specs.Call.{Buffers}
-use Rattle.test_cases.proofs.Words.{front-count}
+use Rattle.test_lines.proofs.Words.{front-count}
+use Rattle.most_populous.specs.Call.{Buffers}
 use Rattle.test_cases.proofs.Fronts.{Lent, lent-arrays, search-back}
 use Rattle.test_cases.proofs.calls.search.Statement.{statement}
 use Rattle.test_cases.proofs.calls.search.Tie as tie

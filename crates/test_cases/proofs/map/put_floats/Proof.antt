@@ -8,7 +8,7 @@ use denote.Ref.{now}
 use borrow.Author.Needs.{needs}
 use Rattle.lists.specs.Front.{over}
 use Rattle.lists.proofs.Fronts.{over-none, over-step}
-use Rattle.test_cases.specs.Numbers.{orLast}
+use Rattle.test_lines.specs.Numbers.{orLast}
 use Rattle.test_cases.proofs.map.put_floats.Statement.{statement}
 use Rattle.test_cases.proofs.map.put_floats.Tie as tie
 

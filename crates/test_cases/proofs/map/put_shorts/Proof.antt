@@ -7,7 +7,7 @@ use denote.Ref.{now}
 use borrow.Author.Needs.{needs}
 use Rattle.lists.specs.Front.{over}
 use Rattle.lists.proofs.Fronts.{over-none, over-step}
-use Rattle.test_cases.specs.Numbers.{shortOf, orLast}
+use Rattle.test_lines.specs.Numbers.{shortOf, orLast}
 use Rattle.test_cases.proofs.map.put_shorts.Statement.{statement}
 use Rattle.test_cases.proofs.map.put_shorts.Tie as tie
 

@@ -1,0 +1,3 @@
+pub mod Work
+pub mod State
+pub mod Requires

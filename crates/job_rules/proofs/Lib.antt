@@ -1,0 +1,4 @@
+pub mod Commands
+pub mod Stepping
+pub mod Seen
+pub mod Ring

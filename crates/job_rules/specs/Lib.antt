@@ -1,0 +1,4 @@
+pub mod Apply
+pub mod State
+pub mod Job
+pub mod Ring

@@ -1,0 +1,3 @@
+-- The laws of the search call, and the computed facts of the ring.
+pub mod SearchCalls
+pub mod Ring

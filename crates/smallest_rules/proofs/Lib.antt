@@ -1,0 +1,3 @@
+pub mod SmallestCalls
+pub mod Ring
+pub mod FewRadii

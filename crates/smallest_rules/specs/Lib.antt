@@ -1,0 +1,4 @@
+pub mod Call
+pub mod State
+pub mod Ring
+pub mod FewRadii
