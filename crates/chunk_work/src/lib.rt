@@ -1,8 +1,11 @@
-// A chunk at work: what it holds, counts and keeps at hand, block by block.
+// Where a level is cut into chunks, and a chunk at work: what it holds, counts and keeps at hand, block by block.
+mod cut;
 mod kept;
 mod work;
 
 use candidates::Held;
+pub use cut::chunk_end;
+pub use cut::chunk_size;
 use grid::Row;
 pub use kept::no_shape;
 pub use kept::odd_columns;

@@ -11,10 +11,10 @@ use Rattle.grid.proofs.Answers.{PassedCall}
 use Rattle.grid.proofs.CellOrder.{On, on-grid}
 use Rattle.sums.specs.Sums.{filledSums}
 use Rattle.sums.specs.State.{countsMap, tableMap}
-use Rattle.sums.specs.Requires.{Fillable}
-use Rattle.sums.proofs.Tables.{fillable, table-map, summed}
+use Rattle.sums_fill.specs.Requires.{Fillable}
+use Rattle.sums_fill.proofs.Tables.{fillable, table-map, summed}
 use Rattle.kernel.specs.declared.Kernel.{Kernel}
-use Rattle.circle.specs.Call.{circleOwn}
+use Rattle.circle_rules.specs.Call.{circleOwn}
 use Rattle.circle_cells.specs.Circle.{population}
 use Rattle.kernel.specs.Kernel.{kernelOf, kernelPopulation}
 use Rattle.reach.specs.Requires.{OnSheet}

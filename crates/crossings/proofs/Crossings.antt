@@ -10,10 +10,10 @@ use Rattle.grid.specs.declared.Grid.{Grid}
 use Rattle.grid.specs.Answer.{refused, decide, after, shown, firstNo}
 use Rattle.grid.proofs.Answers.{decide-no, decided-yes, decided-no}
 use Rattle.spacing.specs.declared.Spacing.{Spacing}
-use Rattle.search.specs.declared.MostPopulous.{MostPopulous}
+use Rattle.search_rules.specs.declared.MostPopulous.{MostPopulous}
 use Rattle.most_populous.specs.declared.SearchAnswer.{SearchAnswer}
 use Rattle.most_populous.specs.declared.SearchAnswer.the-variants as search-answer
-use Rattle.search.specs.Search.{search}
+use Rattle.search_rules.specs.Search.{search}
 use Rattle.most_populous.specs.Call.{Buffers, buffers, SearchOutcome, searchQuestions, searchCall, searchAnswer}
 use Rattle.candidates.specs.declared.Candidate.{Candidate}
 use Rattle.ledger.specs.declared.Ledger.{Ledger}
@@ -24,9 +24,9 @@ use Rattle.put.specs.Call.{PutOutcome, putQuestions, putCall, putAnswer}
 use Rattle.put.proofs.Calls.{put-room}
 use Rattle.words.specs.Words.{ledgerLength, ledgerOf, ledgerWords}
 use Rattle.words.proofs.Places.{counted-fits, fits-length}
-use Rattle.circle.specs.declared.CircleAnswer.{CircleAnswer}
-use Rattle.circle.specs.declared.CircleAnswer.the-variants as circle-answer
-use Rattle.circle.specs.Call.{CircleOutcome, circleCall, circleAnswer}
+use Rattle.circle_rules.specs.declared.CircleAnswer.{CircleAnswer}
+use Rattle.circle_rules.specs.declared.CircleAnswer.the-variants as circle-answer
+use Rattle.circle_rules.specs.Call.{CircleOutcome, circleCall, circleAnswer}
 use Rattle.crossings.specs.Crossing.{numberOf, written}
 use Rattle.crossings.specs.Calls.{circleReturned, circleCrossed, circleCrossing, searchWords, searchReturned, searchCrossed, searchCrossing, putReturned, putCrossed, putCrossing}
 

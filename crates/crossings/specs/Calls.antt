@@ -6,9 +6,9 @@ use Rattle.grid.specs.declared.Cell.{Cell}
 use Rattle.grid.specs.declared.Grid.{Grid}
 use Rattle.grid.specs.Map.{Map}
 use Rattle.grid.specs.Answer.{after}
-use Rattle.circle.specs.Call.{CircleOutcome, circleCall}
+use Rattle.circle_rules.specs.Call.{CircleOutcome, circleCall}
 use Rattle.spacing.specs.declared.Spacing.{Spacing}
-use Rattle.search.specs.declared.MostPopulous.{MostPopulous}
+use Rattle.search_rules.specs.declared.MostPopulous.{MostPopulous}
 use Rattle.most_populous.specs.Call.{Buffers, SearchOutcome, searchCall}
 use Rattle.ledger.specs.declared.Entry.{Entry}
 use Rattle.put.specs.Call.{PutOutcome, putCall}

@@ -1,5 +1,5 @@
 // What crosses of a search: its spacing and its words.
-use search::MostPopulous;
+use search_rules::MostPopulous;
 use spacing::Spacing;
 ghost use mathlib.Core.Path.{_≡_};
 ghost use Rattle.crossings.specs.Crossing.{spacingFrom};

@@ -21,7 +21,7 @@ use Rattle.circle_cells.specs.Circle.{population}
 use Rattle.spacing.specs.declared.Spacing.{Spacing}
 use Rattle.candidates.specs.declared.Candidate.{Candidate}
 use Rattle.candidates.specs.Candidate.{centreOf}
-use Rattle.search.specs.Search.{search}
+use Rattle.search_rules.specs.Search.{search}
 use Rattle.ledger.specs.declared.Ledger.{Ledger}
 use Rattle.climb.specs.Climb.{Ended, allShort, reachedAt}
 use Rattle.climb.proofs.Radii.{last-below}

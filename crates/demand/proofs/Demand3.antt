@@ -8,8 +8,8 @@ use Rattle.grid.proofs.SheetOrder.{in-order}
 use Rattle.grid.proofs.Sizes.{grid-sizes}
 use Rattle.spacing.specs.declared.Spacing.{Spacing}
 use Rattle.bounds.specs.Fair.{Fair}
-use Rattle.search.specs.Search.{search}
-use Rattle.search.proofs.Search.{Searched, search-best}
+use Rattle.search_rules.specs.Search.{search}
+use Rattle.search_rules.proofs.Search.{Searched, search-best}
 use Rattle.demand.specs.Demand3.{Accepted, SearchPromise, Theorem}
 use Rattle.demand.proofs.Fairness.{fair-bounded}
 use Rattle.demand.proofs.Searches.{search-answers, search-answered}

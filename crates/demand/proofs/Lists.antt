@@ -14,7 +14,7 @@ use Rattle.grid.proofs.Answers.{yes-to, after-map, decide-yes, decide-no, not-a
 use Rattle.spacing.specs.declared.Spacing.{Spacing}
 use Rattle.spacing.specs.Spacing.{spacingGiven}
 use Rattle.candidates.specs.declared.Candidate.{Candidate}
-use Rattle.search.specs.Search.{search}
+use Rattle.search_rules.specs.Search.{search}
 use Rattle.most_populous.specs.Call.{buffersFit}
 use Rattle.ledger.specs.declared.Entry.{Entry}
 use Rattle.ledger.specs.declared.Got.the-variants.{Circle, Nothing}

@@ -2,8 +2,8 @@
 use Prim.Native.Nat.{ℕ, zero, suc, _^_, _<_}
 use native.Mathlib.Omega.{arith}
 use lib.ListN.{getD}
-use Rattle.search.specs.Ring.{ring}
-use Rattle.most_populous.proofs.Ring.{ring-searches}
+use Rattle.ring.specs.Ring.{ring}
+use Rattle.ring.proofs.Searches.{ring-searches}
 use Rattle.demand.specs.Demand3.{Accepted, Demand3}
 use Rattle.demand.proofs.RingFair.{ring-fair}
 use Rattle.demand.proofs.Demand3.{demand-3}

@@ -6,8 +6,8 @@ use native.Mathlib.Nat.{le-trans, le-of-lt}
 use lib.Dec.{T, lit≤}
 use Rattle.bounds.specs.Fair.{Fair}
 use Rattle.bounds.proofs.FairTest.{fairTest, fairTests, fair-by-test}
-use Rattle.search.specs.Ring.{ringGlobe}
-use Rattle.search.proofs.Ring.{ring-open}
+use Rattle.ring.specs.Ring.{ringGlobe}
+use Rattle.ring.proofs.Ring.{ring-open}
 
 -- the radii that reach no further cell
 abbrev short : List ℕ

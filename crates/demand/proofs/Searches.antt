@@ -11,8 +11,8 @@ use Rattle.grid.proofs.Answers.{yes-all, yes-to, after-map, decide-yes, decided
 use Rattle.grid.specs.Questions.{radiusInRange}
 use Rattle.spacing.specs.declared.Spacing.{Spacing}
 use Rattle.spacing.specs.Spacing.{spacingGiven}
-use Rattle.search.specs.declared.MostPopulous.{MostPopulous}
-use Rattle.search.specs.Search.{search}
+use Rattle.search_rules.specs.declared.MostPopulous.{MostPopulous}
+use Rattle.search_rules.specs.Search.{search}
 use Rattle.most_populous.specs.Call.{Buffers, searchOwn, searchQuestions, searchCall}
 use Rattle.demand.specs.Demand3.{Accepted, SearchAnswers}
 

@@ -17,8 +17,8 @@ use Rattle.circle_cells.specs.Circle.{population}
 use Rattle.blocks.specs.Block.{range, block}
 use Rattle.bounds.specs.Fair.{Fair}
 use Rattle.bounds.proofs.FairTest.{every-at}
-use Rattle.search.specs.Ring.{ringGlobe}
-use Rattle.most_populous.proofs.Ring.{ring-call-open}
+use Rattle.ring.specs.Ring.{ringGlobe}
+use Rattle.ring.proofs.Searches.{ring-call-open}
 use Rattle.demand.specs.Demand3.{Accepted, Best}
 use Rattle.demand.specs.Unfair.{thinRing, Missed}
 

@@ -15,12 +15,12 @@ use Rattle.grid.specs.Answer.{question, firstNo, Answer, answered, refused, dec
 use Rattle.grid.specs.Questions.{mapQuestions}
 use Rattle.circle_cells.specs.Circle.{population}
 use Rattle.candidates.specs.declared.Candidate.{Candidate}
-use Rattle.search.specs.declared.MostPopulous.{MostPopulous}
+use Rattle.search_rules.specs.declared.MostPopulous.{MostPopulous}
 use Rattle.spacing.specs.declared.Spacing.{Spacing}
 use Rattle.bounds.specs.Fair.{Fair}
-use Rattle.search.specs.Best.{BestOf}
+use Rattle.search_rules.specs.Best.{BestOf}
 use Rattle.candidates.specs.Candidate.{centreOf}
-use Rattle.search.specs.Search.{search}
+use Rattle.search_rules.specs.Search.{search}
 use Rattle.spacing.specs.Spacing.{spacingGiven}
 use Rattle.most_populous.specs.Call.{Buffers, buffersFit, searchCall}
 use Rattle.ledger.specs.declared.Entry.{Entry}

@@ -14,9 +14,9 @@ use Rattle.bounds.specs.Fair.{Fair}
 use Rattle.candidates.specs.Candidate.{candidateOf}
 use Rattle.tally.specs.Counts.{stats, tally}
 use Rattle.most_populous.specs.Call.{searchCall}
-use Rattle.search.specs.Search.{mostPopulous}
-use Rattle.search.specs.Ring.{ringGlobe}
-use Rattle.most_populous.specs.Ring.{ringBuffers}
+use Rattle.search_rules.specs.Search.{mostPopulous}
+use Rattle.ring.specs.Ring.{ringGlobe}
+use Rattle.ring.specs.Searches.{ringBuffers}
 use Rattle.demand.specs.Demand3.{Accepted, Best}
 
 -- the ring of four cells with the cosine 2 ^ -30, as if its one row stood at a pole: wide circles are hardly wider

@@ -1,5 +1,5 @@
 // The single-circle call.
-use circle::CircleAnswer;
+use circle_rules::CircleAnswer;
 use grid::Cell;
 use grid::Col;
 use grid::Grid;

@@ -45,6 +45,7 @@ pub extern "C" fn jadurphen_put(
         col: Col(col),
     };
     let centre = Candidate::at(cell, population);
+    // As it was lent: question 11 judges it.
     let km = RadiusKm(km);
     let before = words::ledger_of(ledger);
     let result = put::put_entry(grid, before, Entry { km, centre });

@@ -4,7 +4,7 @@ use mathlib.Core.Path.{_≡_}
 use mathlib.Core.List.{List, [], _∷_, _++_}
 use native.Mathlib.Omega.{arith}
 use lib.ListN.{length, length-append}
-use Rattle.search.specs.declared.MostPopulous.{MostPopulous}
+use Rattle.search_rules.specs.declared.MostPopulous.{MostPopulous}
 use Rattle.probes.specs.declared.ShortBelow.{ShortBelow}
 use Rattle.probes.specs.declared.ShortBelow.the-variants as short-case
 use Rattle.probes.specs.declared.Smallest.{Smallest}

@@ -3,7 +3,7 @@ use crate::Line;
 use crate::decimal;
 use probes::ShortBelow;
 use probes::Smallest;
-use search::MostPopulous;
+use search_rules::MostPopulous;
 ghost use mathlib.Core.Path.{_≡_};
 ghost use mathlib.Core.List.{[], _++_};
 ghost use Prim.Native.Nat.{_+_, _*_, _≤_, _<_};

@@ -12,7 +12,7 @@ use Rattle.grid.specs.declared.Cell.{Cell}
 use Rattle.grid.specs.declared.Grid.{Grid}
 use Rattle.grid.specs.declared.Row.{Row}
 use Rattle.grid.specs.Answer.{Answer, answered, refused, decide}
-use Rattle.search.specs.declared.MostPopulous.{MostPopulous}
+use Rattle.search_rules.specs.declared.MostPopulous.{MostPopulous}
 use Rattle.probes.specs.declared.Smallest.{Smallest}
 use Rattle.smallest_rules.specs.Call.{SmallestOutcome}
 use Rattle.grid.specs.Map.{Map}

@@ -3,7 +3,7 @@ use Prim.Native.Nat.{ℕ, _+_, _*_, _≤_}
 use mathlib.Core.Path.{_≡_}
 use mathlib.Core.List.{List, [], _++_}
 use lib.ListN.{length, take}
-use Rattle.search.specs.declared.MostPopulous.{MostPopulous}
+use Rattle.search_rules.specs.declared.MostPopulous.{MostPopulous}
 use Rattle.ledger.specs.declared.Ledger.{Ledger}
 use Rattle.probes.specs.declared.Smallest.{Smallest}
 use Rattle.job_lines.specs.Line.{refusedLine, mostLine, leastLine, longestLine}

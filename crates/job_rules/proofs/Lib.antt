@@ -1,4 +1,3 @@
 pub mod Commands
 pub mod Stepping
 pub mod Seen
-pub mod Ring

@@ -8,7 +8,7 @@ use lib.ListN.{drop}
 use Rattle.grid.specs.declared.Grid.{Grid}
 use Rattle.grid.specs.Answer.{question, firstNo, Answer, answered, refused, decide}
 use Rattle.grid.specs.Questions.{gridQuestions}
-use Rattle.search.specs.declared.MostPopulous.{MostPopulous}
+use Rattle.search_rules.specs.declared.MostPopulous.{MostPopulous}
 use Rattle.probes.specs.declared.Smallest.{Smallest}
 use Rattle.smallest_rules.specs.Call.{smallestCall}
 use Rattle.job_commands.specs.declared.Command.{Command}

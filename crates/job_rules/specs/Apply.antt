@@ -9,7 +9,7 @@ use Rattle.grid.specs.Answer.{question, firstNo, Answer, answered, refused, dec
 use Rattle.grid.specs.Questions.{gridQuestions}
 use Rattle.spacing.specs.declared.Spacing.{Spacing}
 use Rattle.spacing.specs.declared.Spacing.the-variants.{Automatic, Cells}
-use Rattle.search.specs.declared.MostPopulous.{MostPopulous}
+use Rattle.search_rules.specs.declared.MostPopulous.{MostPopulous}
 use Rattle.most_populous.specs.Call.{Buffers, buffers, searchCall}
 use Rattle.ledger.specs.declared.Ledger.{Ledger}
 use Rattle.probes.specs.declared.Smallest.{Smallest}

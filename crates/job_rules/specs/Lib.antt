@@ -1,4 +1,3 @@
 pub mod Apply
 pub mod State
 pub mod Job
-pub mod Ring

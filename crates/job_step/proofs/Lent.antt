@@ -5,7 +5,7 @@ use lib.Ieee.{Float}
 use Rattle.grid.specs.Map.{Map}
 use Rattle.spacing.specs.declared.Spacing.{Spacing}
 use Rattle.spacing.specs.declared.Spacing.the-variants.{Cells}
-use Rattle.search.specs.declared.MostPopulous.{MostPopulous}
+use Rattle.search_rules.specs.declared.MostPopulous.{MostPopulous}
 use Rattle.most_populous.specs.declared.SearchAnswer.{SearchAnswer}
 use Rattle.most_populous.specs.declared.SearchAnswer.the-variants as search-answer
 use Rattle.most_populous.specs.Call.{Buffers, SearchOutcome, searchAnswer, searchCall}

@@ -1,3 +1,2 @@
--- The laws of the search call, and the computed facts of the ring.
+-- The laws of the search call.
 pub mod SearchCalls
-pub mod Ring

@@ -13,13 +13,13 @@ use Rattle.grid.specs.Answer.{firstNo, answered, refused, after, shown}
 use Rattle.grid.proofs.Answers.{Passed, PassedCall, map-then, decide-yes, decide-no}
 use Rattle.sums.specs.Sums.{sumsFit, filledSums}
 use Rattle.sums.specs.State.{countsMap, globeMap}
-use Rattle.sums.specs.Requires.{Fillable}
-use Rattle.sums.proofs.Tables.{fillable, bare-filled, globe-map, globe-summed}
+use Rattle.sums_fill.specs.Requires.{Fillable}
+use Rattle.sums_fill.proofs.Tables.{fillable, bare-filled, globe-map, globe-summed}
 use Rattle.spacing.specs.declared.Spacing.{Spacing}
-use Rattle.search.specs.declared.MostPopulous.{MostPopulous}
-use Rattle.search.specs.Search.{search}
+use Rattle.search_rules.specs.declared.MostPopulous.{MostPopulous}
+use Rattle.search_rules.specs.Search.{search}
 use Rattle.most_populous.specs.Call.{Buffers, buffersFit, buffersAfter, searchOwn, searchQuestions, searchCall}
-use Rattle.search.specs.Requires.{CanSearch}
+use Rattle.search_rules.specs.Requires.{CanSearch}
 
 -- ---- the questions of the call
 

@@ -13,10 +13,10 @@ use Rattle.sums.specs.Sums.{sumsFit, filledSums}
 use Rattle.grid.specs.Questions.{radiusInRange}
 use Rattle.spacing.specs.declared.Spacing.{Spacing}
 use Rattle.spacing.specs.Spacing.{spacingGiven}
-use Rattle.search.specs.declared.MostPopulous.{MostPopulous}
+use Rattle.search_rules.specs.declared.MostPopulous.{MostPopulous}
 use Rattle.most_populous.specs.declared.SearchAnswer.{SearchAnswer}
 use Rattle.most_populous.specs.declared.SearchAnswer.the-variants as search-answer
-use Rattle.search.specs.Search.{search}
+use Rattle.search_rules.specs.Search.{search}
 
 -- the buffers that a call is lent: the sums and two level buffers
 pub record Buffers : Type 0 where

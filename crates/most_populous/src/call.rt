@@ -15,7 +15,7 @@ ghost use Rattle.most_populous.specs.Call.{buffers, buffersFit, searchQu
 pub fn buffers_fit(grid: Grid, sums: &[u64], current: &[u64], following: &[u64]) -> bool
     ensures { λ r. ⌜ r ≡ buffersFit grid (buffers (now (sums .entry)) (now (current .entry)) (now (following .entry))) ⌝ }
 {
-    if !sums::sums_fit(grid, sums) {
+    if !sums_fill::sums_fit(grid, sums) {
         return false;
     }
     let cells = grid::cells(grid);
@@ -89,7 +89,7 @@ pub fn most_populous(
     ) {
         Asked::Refused(number) => SearchAnswer::Refused(number),
         Asked::Radius(radius) => {
-            sums::fill_sums(grid, counts, sums);
+            sums_fill::fill_sums(grid, counts, sums);
             let found = search::search_at(
                 grid,
                 angles,

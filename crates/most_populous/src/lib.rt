@@ -3,7 +3,7 @@ mod call;
 
 pub use call::buffers_fit;
 pub use call::most_populous;
-use search::MostPopulous;
+use search_rules::MostPopulous;
 
 // The circle, or the number of the first question that is answered no.
 pub enum SearchAnswer {

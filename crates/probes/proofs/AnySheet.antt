@@ -30,11 +30,11 @@ use Rattle.tally.specs.State.{statsWeight}
 use Rattle.levels.proofs.Rule.{Kept, level-rule}
 use Rattle.levels.proofs.Counts.{next}
 use Rattle.levels.proofs.Finds.{Circle, probe-circle}
-use Rattle.search.specs.declared.SearchResult.{SearchResult}
-use Rattle.search.specs.Search.{searched, heldOr, search}
-use Rattle.search.proofs.Levels.{after, levels-rule, Counted, counted-first, counted-next, no-fuel, Tallied}
-use Rattle.search.proofs.Places.{tallied-few}
-use Rattle.search.proofs.Search.{found, search-is, search-tallied}
+use Rattle.search_rules.specs.declared.SearchResult.{SearchResult}
+use Rattle.search_rules.specs.Search.{searched, heldOr, search}
+use Rattle.search_rules.proofs.Levels.{after, levels-rule, Counted, counted-first, counted-next, no-fuel, Tallied}
+use Rattle.search_rules.proofs.Places.{tallied-few}
+use Rattle.search_rules.proofs.Search.{found, search-is, search-tallied}
 use Rattle.ledger.specs.Requires.{InBounds}
 use Rattle.probes.specs.State.{searchWeight}
 use Rattle.probes.proofs.Kept.{SearchSound}

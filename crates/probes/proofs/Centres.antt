@@ -12,7 +12,7 @@ use Rattle.grid.proofs.Sizes.{Sizes}
 use Rattle.sums.specs.Sums.{total}
 use Rattle.spacing.specs.declared.Spacing.{Spacing}
 use Rattle.candidates.specs.declared.Candidate.{Candidate}
-use Rattle.search.specs.Search.{search}
+use Rattle.search_rules.specs.Search.{search}
 use Rattle.ledger.specs.declared.Got.{Got}
 use Rattle.ledger.specs.declared.Got.the-variants.{Circle, Nothing}
 use Rattle.ledger.specs.declared.Ledger.{Ledger}

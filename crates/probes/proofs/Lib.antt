@@ -1,4 +1,3 @@
-pub mod Ring
 pub mod States
 pub mod Kept
 pub mod AnySheet

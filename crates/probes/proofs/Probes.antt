@@ -8,13 +8,13 @@ use Rattle.grid.specs.declared.Grid.{Grid}
 use Rattle.grid.specs.Map.{Map}
 use Rattle.grid.proofs.Sizes.{grid-sizes}
 use Rattle.sums.specs.Sums.{total}
-use Rattle.sums.proofs.Tables.{bare-total}
+use Rattle.sums.proofs.Laws.{bare-total}
 use Rattle.spacing.specs.declared.Spacing.{Spacing}
 use Rattle.candidates.specs.declared.Candidate.{Candidate}
 use Rattle.levels.specs.State.{summedMap}
 use Rattle.levels.specs.Requires.{Ready}
-use Rattle.search.specs.declared.MostPopulous.{MostPopulous}
-use Rattle.search.specs.Search.{search}
+use Rattle.search_rules.specs.declared.MostPopulous.{MostPopulous}
+use Rattle.search_rules.specs.Search.{search}
 use Rattle.ledger.specs.declared.Entry.{Entry}
 use Rattle.ledger.specs.declared.Got.the-variants.{Circle, Nothing}
 use Rattle.ledger.specs.declared.Ledger.{Ledger}

@@ -1,7 +1,7 @@
 -- The state of a run against the definition's run: what it tracks of the probes.
 use Prim.Native.Nat.{ℕ, suc, _+_}
-use mathlib.Core.Path.{_≡_, refl, ap}
-use mathlib.Core.Bool.{Bool, true, false, cond, not}
+use mathlib.Core.Path.{_≡_, refl, sym, ap, _∙_}
+use mathlib.Core.Bool.{Bool, true, false, cond, not, _&&_}
 use mathlib.Core.List.{List, [], _∷_}
 use native.Mathlib.Nat.{add-zero}
 use native.Mathlib.Omega.{arith}
@@ -10,18 +10,20 @@ use lib.ListN.{length}
 use lib.Ieee.{Float}
 use borrow.Author.Tests.{eq-eqb}
 use Rattle.lists.specs.Counted.{one}
-use Rattle.lists.proofs.Bools.{cases, and-no}
+use Rattle.lists.proofs.Bools.{cases, and-both, and-no, cond-true, cond-false}
 use Rattle.grid.specs.Map.{Map}
 use Rattle.spacing.specs.declared.Spacing.{Spacing}
 use Rattle.tally.specs.declared.SearchStats.{SearchStats}
 use Rattle.tally.specs.Counts.{noStats, plusStats}
-use Rattle.search.specs.Search.{search}
+use Rattle.search_rules.specs.Search.{search}
 use Rattle.ledger.specs.declared.Got.{Got}
 use Rattle.ledger.specs.declared.Got.the-variants.{Circle, Nothing}
 use Rattle.ledger.specs.declared.Ledger.{Ledger}
 use Rattle.ledger.specs.Ledger.{entry, get, put}
 use Rattle.share.specs.Target.{reaches}
 use Rattle.probes.specs.declared.RunState.{RunState}
+use Rattle.probes.specs.declared.ShortBelow.{ShortBelow}
+use Rattle.probes.specs.declared.ShortBelow.the-variants as short-case
 use Rattle.probes.specs.declared.SmallestStats.{SmallestStats}
 use Rattle.probes.specs.Probes.{Probe, Run, reusedAt, searchedAt, probedWith, probed, latestOf, latest, howMany, evaluatedIn, reusedIn, statsOf}
 use Rattle.probes.specs.Smallest.{shortBelow, ambiguity}
@@ -59,6 +61,27 @@ plus-none : (s : SearchStats) → s ≡ plusStats s noStats
 unfolding plusStats noStats
 plus-none s = simp add-zero
 
+-- ---- the witness
+
+abbrev told : Probe → ShortBelow
+told p = short-case.Witness (record { 0 = p .km }) (p .centre .population)
+
+module _ (persons : Float) (p : Probe) (ps : List Probe) where
+  -- a probe that reached is no witness
+  witness-before : (km : ℕ) → reaches persons (p .centre) ≡ true → shortBelow persons km (p ∷ ps) ≡ shortBelow persons km ps
+  unfolding shortBelow
+  witness-before km u =
+      cond-false (eqb (p .km + 1) km && not (reaches persons (p .centre))) (told p) (shortBelow persons km ps) (and-no (eqb (p .km + 1) km) _ (ap not u))
+
+  -- a probe that fell short is, of the kilometre after it
+  witness-here : reaches persons (p .centre) ≡ false → shortBelow persons (p .km + 1) (p ∷ ps) ≡ told p
+  unfolding shortBelow
+  witness-here u =
+      cond-true (eqb (p .km + 1) (p .km + 1) && not (reaches persons (p .centre))) (told p) (shortBelow persons (p .km + 1) ps)
+      (and-both (eqb (p .km + 1) (p .km + 1)) _ (eq-eqb (p .km + 1) (p .km + 1) refl) (ap not u))
+
+-- ---- one probe more
+
 -- after a probe at km
 pub record Tracked (persons slack : Float) (low : ℕ) (s : RunState) (km : ℕ) (r′ : Run) (l′ : Ledger) (s′ : RunState) : Type 0 where
   pub reached : s′ .reached ≡ reaches persons (latest r′)
@@ -70,14 +93,16 @@ module _ (persons slack : Float) (low : ℕ) (r : Run) (l : Ledger) (s : RunStat
   noted-tracks : (p : Probe) (l′ : Ledger) (t : SmallestStats)
       → t ≡ counts (evaluatedIn (p ∷ r .trace)) (reusedIn (p ∷ r .trace)) (statsOf (p ∷ r .trace))
       → Tracks persons slack (cond (reaches persons (p .centre)) low (p .km + 1)) (record { trace = p ∷ r .trace; ledger = l′ }) l′ (noted persons slack s (p .km) (p .centre) t)
-  unfolding noted shortAfter ambiguityAfter shortBelow ambiguity
+  unfolding noted shortAfter ambiguityAfter ambiguity
   noted-tracks p l′ t e =
+      let reached = reaches persons (p .centre) in
+      let at : ℕ → ShortBelow = λ km. shortBelow persons km (p ∷ r .trace) in
       record {
         ledger = refl;
         short =
-            cases (reaches persons (p .centre))
-            (λ u. rw (u, and-no (eqb (p .km + 1) low) false refl) (k .short))
-            (λ u. rw (u, eq-eqb (p .km + 1) (p .km + 1) refl));
+            cases reached
+            (λ u. cond-true reached (s .short) (told p) u ∙ k .short ∙ sym (witness-before persons p (r .trace) low u) ∙ ap at (sym (cond-true reached low (p .km + 1) u)))
+            (λ u. cond-false reached (s .short) (told p) u ∙ sym (witness-here persons p (r .trace) u) ∙ ap at (sym (cond-false reached low (p .km + 1) u)));
         ambiguous = rw (← k .ambiguous);
         stats = e;
       }

@@ -2,4 +2,3 @@ pub mod Probes
 pub mod Smallest
 pub mod State
 pub mod Requires
-pub mod Ring

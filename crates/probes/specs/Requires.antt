@@ -10,8 +10,8 @@ use Rattle.reach.specs.Requires.{Sheet}
 use Rattle.candidates.specs.declared.Candidate.{Candidate}
 use Rattle.levels.specs.State.{summedMap}
 use Rattle.tally.specs.State.{statsWeight}
-use Rattle.search.specs.declared.MostPopulous.{MostPopulous}
-use Rattle.search.specs.Requires.{CanSearch}
+use Rattle.search_rules.specs.declared.MostPopulous.{MostPopulous}
+use Rattle.search_rules.specs.Requires.{CanSearch}
 use Rattle.ledger.specs.declared.Ledger.{Ledger}
 use Rattle.ledger.specs.Ledger.{ledgerInOrder, placesFree}
 use Rattle.ledger.specs.Requires.{InBounds}

@@ -16,7 +16,7 @@ use Rattle.candidates.specs.Candidate.{northWest}
 use Rattle.tally.specs.declared.SearchStats.{SearchStats}
 use Rattle.tally.specs.Counts.{noStats, plusStats}
 use Rattle.tally.specs.State.{statsWeight}
-use Rattle.search.specs.Search.{search}
+use Rattle.search_rules.specs.Search.{search}
 use Rattle.ledger.specs.declared.Got.{Got}
 use Rattle.ledger.specs.declared.Got.the-variants.{Circle, Nothing}
 use Rattle.ledger.specs.declared.Ledger.{Ledger}

@@ -1,16 +1,9 @@
-// A probe of a smallest radius, reused or searched, and what it adds to the state of a run; the fields of the answer.
-
-mod probe;
-mod state;
-
+// The probes of a smallest radius, the run that they make, and the fields of its answer. What they are stands in `specs/`; `run_state` carries a run
+// from probe to probe, `run` goes through it.
 use candidates::Candidate;
 use grid::RadiusKm;
 use ledger::Ledger;
-pub use probe::entry_of;
-pub use probe::evaluated;
-pub use probe::reused;
 use share::Target;
-pub use state::begun;
 use tally::SearchStats;
 
 // The short witness: the short probe right below the answer, if there was one.

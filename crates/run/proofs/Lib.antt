@@ -1,3 +1,2 @@
--- The loop of a run, and what its end gives.
+-- The loop of a run.
 pub mod RunLoop
-pub mod Ends

@@ -18,9 +18,9 @@ use Rattle.candidates.specs.Candidate.{northWest}
 use Rattle.tally.specs.Counts.{noStats}
 use Rattle.levels.specs.State.{summedMap}
 use Rattle.tally.specs.State.{statsWeight}
-use Rattle.search.specs.declared.MostPopulous.{MostPopulous}
-use Rattle.search.specs.Requires.{CanSearch}
-use Rattle.search.specs.Search.{search}
+use Rattle.search_rules.specs.declared.MostPopulous.{MostPopulous}
+use Rattle.search_rules.specs.Requires.{CanSearch}
+use Rattle.search_rules.specs.Search.{search}
 use Rattle.ledger.specs.declared.Entry.{Entry}
 use Rattle.ledger.specs.declared.Got.the-variants.{Circle}
 use Rattle.ledger.specs.declared.Ledger.{Ledger}
@@ -40,7 +40,7 @@ use Rattle.probes.specs.declared.RunEnd.{RunEnd}
 use Rattle.probes.specs.declared.Ran.{Ran}
 use Rattle.probes.specs.Probes.{Run, targetPersons, probed, latest, smallestRun}
 use Rattle.probes.specs.State.{runBegun, stateAfter, probeCount, radiiOf, InOrder, endAt, ranTo, ran}
-use Rattle.run.specs.State.{endFrom}
+use Rattle.run_end.specs.State.{endFrom}
 use Rattle.probes.specs.Requires.{CanNote, CanEvaluate, CanRun}
 use Rattle.probes.proofs.Traces.{lastKm}
 use Rattle.probes.proofs.States.{starting, Tracks, tracks-begun, tracks-next}

@@ -28,19 +28,19 @@ use Rattle.candidates.specs.declared.Held.{Held}
 use Rattle.candidates.specs.declared.Held.the-variants.{Nobody}
 use Rattle.tally.specs.declared.Tally.{Tally}
 use Rattle.levels.specs.declared.ChunkResult.{ChunkResult}
-use Rattle.search.specs.declared.SearchResult.{SearchResult}
+use Rattle.search_rules.specs.declared.SearchResult.{SearchResult}
 use Rattle.levels.specs.Level.{level, levelInOrder}
 use Rattle.chunk_work.specs.Work.{Outcome}
 use Rattle.tally.specs.Counts.{noTally, plus, plusStats}
-use Rattle.search.specs.Search.{levels, searched}
+use Rattle.search_rules.specs.Search.{levels, searched}
 use Rattle.levels.specs.State.{summedMap, children, Swept}
 use Rattle.tally.specs.State.{weight, statsWeight}
 use Rattle.levels.specs.Requires.{mostCells, Ready, CanSweep}
-use Rattle.search.specs.Requires.{TwoBuffers}
-use Rattle.search.specs.State.{FirstLevel, withLevel}
+use Rattle.search_rules.specs.Requires.{TwoBuffers}
+use Rattle.search_rules.specs.State.{FirstLevel, withLevel}
 use Rattle.levels.proofs.Counts.{level-counts}
-use Rattle.search.proofs.Levels.{after, Counted, blocks-fit, counted-first, counted-next, no-fuel, levels-none}
-use Rattle.search.proofs.Places.{Few, counted-few, cells-few}
+use Rattle.search_rules.proofs.Levels.{after, Counted, blocks-fit, counted-first, counted-next, no-fuel, levels-none}
+use Rattle.search_rules.proofs.Places.{Few, counted-few, cells-few}
 
 -- the words of rectangles on a grid that question 1 lets pass
 words-small : (g : Grid) → Sizes g → {bs : List Block} → AllOf (Rectangle g) bs → AllOf Small bs

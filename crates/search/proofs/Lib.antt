@@ -1,6 +1,2 @@
--- The laws of the search, for every map, radius and spacing; and what a search of the ring opens.
-pub mod Levels
-pub mod Search
-pub mod Places
-pub mod Ring
+-- The loop over the levels.
 pub mod Descents

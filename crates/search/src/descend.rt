@@ -1,30 +1,12 @@
 // Levels until no block is left: each level's children come back to the first buffer in probe order.
-use crate::SearchResult;
-use candidates::Held;
 use grid::Grid;
-use levels::ChunkResult;
-use tally::SearchStats;
-use tally::Tally;
+use search_rules::SearchResult;
 ghost use mathlib.Core.Path.{_≡_};
-ghost use Prim.Native.Nat.{_+_, _≤_, _^_};
-ghost use Rattle.tally.specs.Counts.{noTally};
 ghost use Rattle.levels.specs.State.{summedMap};
-ghost use Rattle.tally.specs.State.{weight};
-ghost use Rattle.search.specs.Search.{searched};
+ghost use Rattle.search_rules.specs.Search.{searched};
 ghost use Rattle.levels.specs.Requires.{Ready};
-ghost use Rattle.search.specs.Requires.{TwoBuffers};
-ghost use Rattle.search.specs.State.{FirstLevel, withLevel};
-ghost use Rattle.candidates.specs.declared.Held.the-variants.{Nobody};
-
-// Nothing held and nothing counted.
-pub(crate) fn nothing() -> SearchResult
-    ensures { λ r. ⌜ r ≡ record { held = Nobody; tally = noTally } ⌝ }
-{
-    let stats = SearchStats::of(0, 0, 0, 0, 0);
-    let tally = Tally::of(stats, 0, 0);
-    let held = Held::Nobody;
-    SearchResult { held, tally }
-}
+ghost use Rattle.search_rules.specs.Requires.{TwoBuffers};
+ghost use Rattle.search_rules.specs.State.{FirstLevel};
 
 // The grid's first blocks in probe order, and how many they are.
 fn first_level(grid: Grid, spacing: u32, current: &mut [u64], following: &mut [u64]) -> usize
@@ -34,18 +16,6 @@ fn first_level(grid: Grid, spacing: u32, current: &mut [u64], following: &mut [u
     let n = pieces::tile(grid, spacing, following);
     probe_order::insert_from(following, n, current);
     n
-}
-
-// What a level holds, and its counts added.
-fn with_level(found: SearchResult, level: ChunkResult) -> SearchResult
-    requires { ⌜ weight (found .tally) + weight (level .tally) ≤ 2 ^ 31 ⌝ }
-    ensures { λ r. ⌜ r ≡ withLevel found level ⌝ }
-{
-    let held = level.held;
-    let counted = found.tally;
-    let more = level.tally;
-    let tally = tally::plus(counted, more);
-    SearchResult { held, tally }
 }
 
 // Level after level, the survivors split into their children, until no block is left. Every cell is pruned with its block or evaluated as
@@ -65,7 +35,7 @@ pub(crate) fn searched(
     ensures { λ r. ⌜ r ≡ searched (summedMap grid (now (angles .entry)) (now (cosines .entry)) (now (sums .entry))) km spacing ⌝ }
 {
     let mut live = first_level(grid, spacing, current, following);
-    let mut found = nothing();
+    let mut found = search_rules::nothing();
     while 0 < live {
         let best = found.held;
         let level = sweep::level(
@@ -79,7 +49,7 @@ pub(crate) fn searched(
             best,
             following,
         );
-        found = with_level(found, level);
+        found = search_rules::with_level(found, level);
         live = level.live;
         probe_order::insert_from(following, live, current);
     }

@@ -1,51 +1,13 @@
 // The search at a radius of an accepted map.
-use crate::MostPopulous;
-use crate::SearchResult;
 use crate::descend;
-use candidates::Candidate;
-use candidates::Held;
-use grid::Cell;
-use grid::Col;
 use grid::Grid;
 use grid::RadiusKm;
-use grid::Row;
+use search_rules::MostPopulous;
 use spacing::Spacing;
 ghost use mathlib.Core.Path.{_≡_};
-ghost use Rattle.candidates.specs.Candidate.{northWest};
-ghost use Rattle.search.specs.Search.{heldOr, mostPopulous, search};
+ghost use Rattle.search_rules.specs.Search.{search};
 ghost use Rattle.levels.specs.State.{summedMap};
-ghost use Rattle.search.specs.Requires.{CanSearch};
-
-// What is held, or the cell (0, 0) with nobody.
-fn held_or_north_west(held: Held) -> Candidate
-    ensures { λ r. ⌜ r ≡ heldOr (northWest 0) held ⌝ }
-{
-    match held {
-        Held::Nobody => Candidate::at(
-            Cell {
-                row: Row(0),
-                col: Col(0),
-            },
-            0,
-        ),
-        Held::Best(c) => c,
-    }
-}
-
-// What the levels found, with its radius: the cell (0, 0) with nobody where nothing is held.
-fn answer_of(found: SearchResult, km: RadiusKm) -> MostPopulous
-    ensures { λ r. ⌜ r ≡ mostPopulous (km .0) (heldOr (northWest 0) (found .held)) (found .tally) ⌝ }
-{
-    let held = found.held;
-    let tally = found.tally;
-    let centre = held_or_north_west(held);
-    MostPopulous {
-        centre,
-        radius: km,
-        tolerance_persons: 0.0,
-        tally,
-    }
-}
+ghost use Rattle.search_rules.specs.Requires.{CanSearch};
 
 // The search of a map whose questions are answered and whose sums are filled; the level buffers are left as they come.
 pub fn search_at(
@@ -62,8 +24,8 @@ pub fn search_at(
     ensures { λ r. ⌜ r ≡ search (summedMap grid (now (angles .entry)) (now (cosines .entry)) (now (sums .entry))) spacing (km .0) ⌝ }
 {
     if km.0 == 0 {
-        let none = descend::nothing();
-        return answer_of(none, km);
+        let none = search_rules::nothing();
+        return search_rules::answer_of(none, km);
     }
     let radius = km.0 as f64;
     let side = spacing::spacing_of(grid, radius, spacing);
@@ -77,5 +39,5 @@ pub fn search_at(
         current,
         following,
     );
-    answer_of(found, km)
+    search_rules::answer_of(found, km)
 }

@@ -11,8 +11,9 @@ use Rattle.grid.proofs.Sizes.{grid-sizes}
 use Rattle.grid.proofs.Answers.{PassedCall}
 use Rattle.sums.specs.Sums.{total, filledSums}
 use Rattle.sums.specs.State.{countsMap, globeMap, tableMap}
-use Rattle.sums.specs.Requires.{Fillable}
-use Rattle.sums.proofs.Tables.{bare-filled, bare-total, globe-map}
+use Rattle.sums.proofs.Laws.{bare-total}
+use Rattle.sums_fill.specs.Requires.{Fillable}
+use Rattle.sums_fill.proofs.Tables.{bare-filled, globe-map}
 use Rattle.spacing.specs.declared.Spacing.{Spacing}
 use Rattle.levels.specs.State.{summedMap}
 use Rattle.most_populous.specs.Call.{Buffers}
@@ -28,7 +29,7 @@ use Rattle.probes.specs.declared.Smallest.{Smallest}
 use Rattle.probes.specs.Smallest.{Settled, smallest}
 use Rattle.probes.specs.State.{ran, answerBy}
 use Rattle.probes.specs.Requires.{CanRun, CanConclude}
-use Rattle.run.proofs.Ends.{answer-sheet, settledBy, ran-settles}
+use Rattle.run_end.proofs.Ends.{answer-sheet, settledBy, ran-settles}
 use Rattle.probes.proofs.Probes.{people-exact}
 use Rattle.probes.proofs.Centres.{ran-in-bounds}
 use Rattle.smallest_rules.specs.declared.SmallestResult.{SmallestResult}

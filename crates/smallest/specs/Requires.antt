@@ -5,7 +5,7 @@ use mathlib.Core.Path.{_≡_}
 use mathlib.Core.Bool.{true}
 use lib.Ieee.{Float}
 use Rattle.grid.specs.declared.Grid.{Grid}
-use Rattle.search.specs.Requires.{CanSearch}
+use Rattle.search_rules.specs.Requires.{CanSearch}
 use Rattle.ledger.specs.declared.Ledger.{Ledger}
 use Rattle.ledger.specs.Ledger.{ledgerInOrder, placesFree}
 use Rattle.climb.specs.Climb.{mostRadii}

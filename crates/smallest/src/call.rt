@@ -48,7 +48,7 @@ fn settle(
         ledger,
     );
     let end = ran.end;
-    let found = run::conclude(grid, angles, target, slack, total, end);
+    let found = run_end::conclude(grid, angles, target, slack, total, end);
     let kept = ran.ledger;
     SmallestResult {
         answer: SmallestAnswer::Found(found),
@@ -121,7 +121,7 @@ pub fn smallest_radius(
             ledger,
         };
     }
-    sums::fill_sums(grid, counts, sums);
+    sums_fill::fill_sums(grid, counts, sums);
     settle(
         grid,
         angles,

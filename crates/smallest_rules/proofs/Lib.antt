@@ -1,3 +1,2 @@
 pub mod SmallestCalls
-pub mod Ring
 pub mod FewRadii

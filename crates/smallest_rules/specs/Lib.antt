@@ -1,4 +1,3 @@
 pub mod Call
 pub mod State
-pub mod Ring
 pub mod FewRadii

@@ -1,36 +1,16 @@
--- What filling the sums and reading them ask: sizes and counts that a call has tested, room in what is lent, and places on the grid.
-use Prim.Native.Nat.{ℕ, _+_, _*_, _≤_, _<_, _^_}
+-- What reading the sums asks: words that a call has filled, and places on the grid.
+use Prim.Native.Nat.{ℕ, _≤_, _<_, _^_}
 use mathlib.Core.Path.{_≡_}
 use mathlib.Core.List.{List}
 use lib.ListN.{length}
-use Rattle.lists.specs.Front.{over}
 use Rattle.grid.specs.declared.Col.{Col}
 use Rattle.grid.specs.declared.Grid.{Grid}
 use Rattle.grid.specs.Grid.{mostColumns, mostRows}
 use Rattle.sums.specs.declared.RowBand.{RowBand}
 use Rattle.sums.specs.declared.ColSpan.{ColSpan}
 use Rattle.sums.specs.declared.Rows.{Rows}
-use Rattle.sums.specs.Sums.{sumsWords, sumsWord, filledSums, total}
-use Rattle.sums.specs.State.{countsMap, wordsThrough, tableMap}
-
--- ---- filling
-
--- what fill_sums is told: questions 1, 4 and 7
-pub record Fillable (g : Grid) (counts sums : List ℕ) : Type 0 where
-  pub columns : g .width ≤ mostColumns
-  pub rows : g .height ≤ mostRows
-  pub complete : length counts ≡ g .width * g .height
-  pub room : sumsWords g ≤ length sums
-
--- the same when the words of rows 0 to row are there and those of row + 1 are next
-pub record RowReady (g : Grid) (row : ℕ) (counts sums : List ℕ) : Type 0 where
-  pub columns : g .width ≤ mostColumns
-  pub rows : row < mostRows
-  pub complete : row * g .width + g .width ≤ length counts
-  pub room : wordsThrough g row + (g .width + 1) ≤ length sums
-  pub above : sums ≡ over (sumsWord (countsMap g counts)) (wordsThrough g row) sums
-
--- ---- reading
+use Rattle.sums.specs.Sums.{sumsWords, filledSums, total}
+use Rattle.sums.specs.State.{tableMap}
 
 -- the sums start with the prefix sums of the table's map, whose people a binary64 counts exactly
 pub record Summed (g : Grid) (sums : List ℕ) : Type 0 where

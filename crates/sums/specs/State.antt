@@ -1,4 +1,4 @@
--- The sums under way, and the map that a buffer's words are the prefix sums of: a function that is lent the words alone speaks of it.
+-- The map that a buffer's words are the prefix sums of: a function that is lent the words alone speaks of it.
 use Prim.Native.Nat.{ℕ, _+_, _*_, _-_, _/_, _%_}
 use mathlib.Core.List.{List, []}
 use lib.ListN.{getD}
@@ -10,12 +10,6 @@ use Rattle.grid.specs.Map.{Map, Globe, lentMap}
 -- a map by its grid and counts alone: prefix sums read no angle
 abbrev pub countsMap : Grid → List ℕ → Map
 countsMap g counts = lentMap g counts [] []
-
--- how many words the rows from 0 to a row take, that row's included
-abbrev pub wordsThrough : Grid → ℕ → ℕ
-wordsThrough g row = row * (g .width + 1) + (g .width + 1)
-
--- ---- the map by its sums
 
 -- the word at a row and a column of the sums
 unfoldable pub sumsAt : Grid → List ℕ → ℕ → ℕ → ℕ

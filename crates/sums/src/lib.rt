@@ -1,12 +1,8 @@
-// Prefix sums of the counts in a lent buffer, and the people of bands of rows and spans of columns by four words or six.
+// Prefix sums of the counts in a lent buffer, and the people of bands of rows and spans of columns by four words or six. Crate `sums_fill` fills it.
 ghost use mathlib.Core.Path.{_≡_};
-ghost use Prim.Native.Nat.{_+_, _*_, _≤_};
-ghost use lib.ListN.{length};
-ghost use Rattle.lists.specs.Front.{over};
-ghost use Rattle.sums.specs.Sums.{corner as cornerOf, sumsWord, sumsFit, filledSums};
-ghost use Rattle.sums.specs.Sums.{rectanglePopulation, bandPopulation};
-ghost use Rattle.sums.specs.State.{countsMap, wordsThrough, tableMap};
-ghost use Rattle.sums.specs.Requires.{Fillable, RowReady, Summed, AtCorner, OnTable, StripOnTable, InlandOnTable};
+ghost use Rattle.sums.specs.Sums.{corner as cornerOf, rectanglePopulation, bandPopulation};
+ghost use Rattle.sums.specs.State.{tableMap};
+ghost use Rattle.sums.specs.Requires.{Summed, AtCorner, OnTable, StripOnTable, InlandOnTable};
 use grid::Col;
 use grid::Grid;
 use grid::Row;
@@ -27,71 +23,6 @@ pub struct Rows {
 pub struct ColSpan {
     pub west: Col,
     pub east: Col,
-}
-
-// Question 7, for the sums buffer. Rows and the last row apart, so that no product wraps.
-pub fn sums_fit(grid: Grid, sums: &[u64]) -> bool
-    ensures { λ r. ⌜ r ≡ sumsFit grid (now (sums .entry)) ⌝ }
-{
-    let stride = grid.width as usize + 1;
-    let rows = grid.height as usize * stride;
-    if rows <= sums.len() {
-        stride <= sums.len() - rows
-    } else {
-        false
-    }
-}
-
-fn wide(x: u32) -> u64
-    ensures { λ r. ⌜ r ≡ x ⌝ }
-{
-    x as u64
-}
-
-// The words of row 0: no cell lies above them.
-fn zero_row(sums: &mut [u64], stride: usize)
-    requires { ⌜ stride ≤ length (now sums) ⌝ }
-    ensures { λ _. ⌜ now (sums .exit) ≡ over (λ i. 0) stride (now (sums .entry)) ⌝ }
-{
-    let mut k = 0;
-    while k < stride {
-        sums[k] = 0;
-        k += 1;
-    }
-}
-
-// The words of row `row + 1`: each is the word above it and the row's counts so far.
-fn fill_row(grid: Grid, row: usize, counts: &[u32], sums: &mut [u64])
-    requires { ⌜ RowReady grid row (now counts) (now sums) ⌝ }
-    ensures { λ _. ⌜ now (sums .exit)
-        ≡ over (sumsWord (countsMap grid (now (counts .entry)))) (wordsThrough grid row + (grid .width + 1)) (now (sums .entry)) ⌝ }
-{
-    let width = grid.width as usize;
-    let above = row * (width + 1);
-    let base = above + (width + 1);
-    let from = row * width;
-    sums[base] = 0;
-    let mut run: u64 = 0;
-    let mut col: usize = 0;
-    while col < width {
-        run += wide(counts[from + col]);
-        sums[base + 1 + col] = sums[above + 1 + col] + run;
-        col += 1;
-    }
-}
-
-// The prefix sums of the counts at the front of `sums`, whose tail is kept.
-pub fn fill_sums(grid: Grid, counts: &[u32], sums: &mut [u64])
-    requires { ⌜ Fillable grid (now counts) (now sums) ⌝ }
-    ensures { λ _. ⌜ now (sums .exit) ≡ filledSums (countsMap grid (now (counts .entry))) (now (sums .entry)) ⌝ }
-{
-    let height = grid.height as usize;
-    zero_row(sums, grid.width as usize + 1);
-    let mut row: usize = 0;
-    while row < height {
-        fill_row(grid, row, counts, sums);
-        row += 1;
-    }
 }
 
 // The word of a corner: the people above a row and west of a column, either of which may be one past the last. The row's words come first:

@@ -4,15 +4,11 @@ use mathlib.Core.Path.{_≡_, refl, sym, ap, subst, _∙_}
 use mathlib.Core.List.{List, [], _∷_, _++_, append-nil, append-assoc}
 use native.Mathlib.Omega.{arith}
 use native.Mathlib.Decide.{decLt}
-use mathlib.Core.Bool.{true, false}
-use borrow.Author.Tests.{ltb-true, ltb-false}
-use lib.Dec.{ltb}
 use lib.Ieee.{Float}
 use lib.ListN.{length, take, drop, length-append, drop-of-length-le}
 use lib.Seq.{take-at, drop-at, take-all}
 use Rattle.lists.specs.Counted.{max, divCeil}
 use Rattle.lists.specs.Lists.{fold, each, concatEach, pieces}
-use Rattle.lists.proofs.Bools.{cases, cond-true, cond-false, cond-case}
 use Rattle.lists.proofs.Folds.{fold-append, each-append, length-each, concat-append, concat-snoc}
 use Rattle.lists.specs.Elements.{AllOf, totalOf}
 use Rattle.lists.proofs.Elements.{all-left, all-right, total-append}
@@ -34,18 +30,6 @@ use Rattle.levels.proofs.Rule.{begun, chunks-rule, chunks-enough, chunks-whole,
 use Rattle.levels.proofs.Counts.{ended, Counts, counts-kept, next-fits}
 use Rattle.sweep.proofs.Spans.{span-none, span-cut, span-length, span-first}
 use Rattle.sweep.proofs.Sweeps.{sofar-room, sofar-light, written-then, written-size, written-nothing}
-
--- ---- how many workers
-
-pub most-one : (n : ℕ) → 1 ≤ n → max 1 n ≡ n
-unfolding max
-most-one n h =
-    cases (ltb 1 n) (λ (e : ltb 1 n ≡ true). cond-true (ltb 1 n) n 1 e)
-    (λ (e : ltb 1 n ≡ false). cond-false (ltb 1 n) n 1 e ∙ omega (arith, ltb-false 1 n e))
-
-pub workers-few : (n : ℕ) → (1 ≤ max 1 (min 4 n)) × (max 1 (min 4 n) ≤ 4)
-unfolding max
-workers-few n = cond-case (λ (w : ℕ). (1 ≤ w) × (w ≤ 4)) (ltb 1 (min 4 n)) (min 4 n) 1 (λ e. (omega (arith, ltb-true 1 (min 4 n) e), omega arith)) (λ e. (omega arith, omega arith))
 
 -- ---- a list cut into pieces
 

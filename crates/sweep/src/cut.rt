@@ -6,43 +6,14 @@ use levels::ChunkResult;
 use tally::SearchStats;
 use tally::Tally;
 ghost use mathlib.Core.Path.{_≡_};
-ghost use Prim.Native.Nat.{_+_, _≤_, _^_, min};
+ghost use Prim.Native.Nat.{_+_, _≤_, _^_};
 ghost use lib.ListN.{length};
-ghost use Rattle.lists.specs.Counted.{max, divCeil};
 ghost use Rattle.blocks.specs.State.{blocksOf};
 ghost use Rattle.levels.specs.Level.{levelInOrder};
 ghost use Rattle.tally.specs.Counts.{stats, tally};
 ghost use Rattle.levels.specs.State.{summedMap, joinedResults, Swept};
 ghost use Rattle.tally.specs.State.{weight};
 ghost use Rattle.levels.specs.Requires.{Ready, CanSweep};
-
-// Four, or as many as there are blocks, and at least one. The counts hang on where a level is cut, and the original cuts it for four
-// threads whatever the machine has: so do we, though one thread goes through the chunks in turn.
-fn workers(n: usize) -> usize
-    ensures { λ r. ⌜ r ≡ max 1 (min 4 n) ⌝ }
-{
-    if n < 1 {
-        return 1;
-    }
-    if n < 4 { n } else { 4 }
-}
-
-// How many blocks a worker has: the last worker may have fewer.
-fn chunk_size(n: usize) -> usize
-    requires { ⌜ n ≤ 2 ^ 32 ⌝ }
-    ensures { λ r. ⌜ r ≡ divCeil n (max 1 (min 4 n)) ⌝ }
-{
-    let w = workers(n);
-    (n + (w - 1)) / w
-}
-
-// The place after a chunk: the last one may be short.
-fn chunk_end(start: usize, size: usize, n: usize) -> usize
-    requires { ⌜ start ≤ n ⌝ }
-    ensures { λ r. ⌜ r ≡ min (start + size) n ⌝ }
-{
-    if size < n - start { start + size } else { n }
-}
 
 // A level before its first chunk.
 fn begun(best: Held) -> ChunkResult
@@ -96,11 +67,11 @@ pub fn level(
         (levelInOrder (summedMap grid (now (angles .entry)) (now (cosines .entry)) (now (sums .entry))) km best (blocksOf n (now (current .entry))))
         (now (following .entry)) 0 (now (following .exit)) r ⌝ }
 {
-    let size = chunk_size(n);
+    let size = chunk_work::chunk_size(n);
     let mut done = begun(best);
     let mut start: usize = 0;
     while start < n {
-        let end = chunk_end(start, size, n);
+        let end = chunk_work::chunk_end(start, size, n);
         let live = done.live;
         let part = sweep::chunk(
             grid,

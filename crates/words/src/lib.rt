@@ -61,7 +61,7 @@ fn ledger_fits(words: &[u64]) -> bool
     true
 }
 
-// The entry that the four words of place i say.
+// The entry that the four words of place i say. Its kilometre is as it was lent, and question 11 judges it.
 fn place_at(words: &[u64], i: usize) -> Entry
     requires { ⌜ ledgerFits (now words) ≡ true ⌝ }
     requires { ⌜ i < capacity ⌝ }

@@ -6,7 +6,6 @@ use denote.Ref.{now}
 use Rattle.sums.specs.Sums.{rectanglePopulation}
 use Rattle.sums.specs.State.{tableMap}
 use Rattle.sums.proofs.Laws.{rectangle-cut}
-use borrow.Author.Needs.{needs}
 use Rattle.sums.proofs.inland.Statement.{statement}
 use Rattle.sums.proofs.inland.Tie as tie
 
@@ -18,10 +17,14 @@ apart c =
     omega (arith, rectangle-cut (tableMap (a .grid) (now (a .sums))) (a .rows) (a .west) (a .end) (s .pre .1 .west), c .before .strip .ensures, c .strip2 .ensures)
 
 strip-requires : tie.Need-strip-requires
-strip-requires c κs = search needs
+strip-requires c κs =
+    let p = c .before .pre in
+    (p .0, record { ordered = p .1 .ordered; south = p .1 .south; col = p .1 .end })
 
 strip-requires-2 : tie.Need-strip-requires-2
-strip-requires-2 c κs = search needs
+strip-requires-2 c κs =
+    let p = c .before .before .pre in
+    (p .0, record { ordered = p .1 .ordered; south = p .1 .south; col = omega (arith, p .1 .west, p .1 .end) })
 
 sub-result : tie.Need-sub-result
 sub-result c = omega (arith, apart c)

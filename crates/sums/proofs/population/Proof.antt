@@ -25,7 +25,10 @@ add-end : tie.Need-add-end
 add-end c = search needs
 
 inland-requires : tie.Need-inland-requires
-inland-requires c κs = search needs
+inland-requires c κs =
+    let p = c .before .before .before .pre in
+    let on = p .1 in
+    (p .0, record { ordered = omega (arith, on .ordered); south = omega (arith, on .south); west = omega arith; end = omega (arith, on .east) })
 
 returns : tie.Need-returns
 returns c =
@@ -35,10 +38,16 @@ returns c =
     rw (c .inland .ensures) (sym (band-plain (M s) (a .band) (a .span) (on .ordered) (on .south) (omega (arith, c .before .if1 .taken)) (on .east)))
 
 inland-requires-2 : tie.Need-inland-requires-2
-inland-requires-2 c κs = search needs
+inland-requires-2 c κs =
+    let p = start c .pre in
+    let on = p .1 in
+    (p .0, record { ordered = omega (arith, on .ordered); south = omega (arith, on .south); west = omega (arith, on .west); end = omega arith })
 
 strip-requires : tie.Need-strip-requires
-strip-requires c κs = search needs
+strip-requires c κs =
+    let p = start (c .before) .pre in
+    let on = p .1 in
+    (p .0, record { ordered = omega (arith, on .ordered); south = omega (arith, on .south); col = omega (arith, on .east) })
 
 -- each piece has at most all people, and twice those fit
 add-result : tie.Need-add-result

@@ -6,7 +6,6 @@ use denote.Ref.{now}
 use Rattle.sums.specs.Sums.{rectanglePopulation}
 use Rattle.sums.specs.State.{tableMap}
 use Rattle.sums.proofs.Laws.{corner-rows}
-use borrow.Author.Needs.{needs}
 use Rattle.sums.proofs.strip.Statement.{statement}
 use Rattle.sums.proofs.strip.Tie as tie
 
@@ -18,10 +17,12 @@ apart c =
     omega (arith, corner-rows (tableMap (a .grid) (now (a .sums))) (a .rows) (a .col) (s .pre .1 .ordered), c .before .corner .ensures, c .corner2 .ensures)
 
 corner-requires : tie.Need-corner-requires
-corner-requires c κs = search needs
+corner-requires c κs = let p = c .before .pre in (p .0, record { row = p .1 .south; col = p .1 .col })
 
 corner-requires-2 : tie.Need-corner-requires-2
-corner-requires-2 c κs = search needs
+corner-requires-2 c κs =
+    let p = c .before .before .pre in
+    (p .0, record { row = omega (arith, p .1 .ordered, p .1 .south); col = p .1 .col })
 
 sub-result : tie.Need-sub-result
 sub-result c = omega (arith, apart c)

@@ -37,7 +37,9 @@ full-turn-requires : tie.Need-full-turn-requires
 full-turn-requires c κs = search needs
 
 strip-requires : tie.Need-strip-requires
-strip-requires c κs = search needs
+strip-requires c κs =
+    let p = start (c .before) .pre in
+    (p .0, record { ordered = omega (arith, p .1 .ordered); south = omega (arith, p .1 .south); col = omega arith })
 
 returns : tie.Need-returns
 returns c =
@@ -55,7 +57,11 @@ sub-t15 : tie.Need-sub-t15
 sub-t15 c = let less = short (parted (c .before .before)) in omega arith
 
 population-at-requires : tie.Need-population-at-requires
-population-at-requires c κs = let less = short (parted (c .before .before)) in search needs
+population-at-requires c κs =
+    let less = parted (c .before .before) in
+    let p = start (less .before) .pre in
+    let on = p .1 in
+    (p .0, record { ordered = on .ordered; south = on .south; west = omega (arith, c .before .if2 .taken); east = omega (arith, on .col, short less) })
 
 returns-2 : tie.Need-returns-2
 returns-2 c =
@@ -67,7 +73,10 @@ returns-2 c =
     (sym (around-west (M s) (a .band) (a .centre) (a .half) (on .ordered) (on .south) (on .col) (short less) (c .before .before .if2 .taken)))
 
 population-at-requires-2 : tie.Need-population-at-requires-2
-population-at-requires-2 c κs = search needs
+population-at-requires-2 c κs =
+    let p = start (parted (c .before .before .before) .before) .pre in
+    let on = p .1 in
+    (p .0, record { ordered = on .ordered; south = on .south; west = omega (arith, on .col); east = c .before .if3 .taken })
 
 returns-3 : tie.Need-returns-3
 returns-3 c =

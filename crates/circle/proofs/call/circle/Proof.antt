@@ -4,10 +4,10 @@ use denote.Ref.{now}
 use Rattle.grid.specs.Map.{Map, lentMap}
 use Rattle.grid.specs.Answer.{firstNo}
 use Rattle.grid.proofs.Answers.{PassedCall}
-use Rattle.sums.proofs.Tables.{bare-filled}
-use Rattle.circle.specs.Call.{circleOwn, circleQuestions, circleAnswer}
+use Rattle.sums_fill.proofs.Tables.{bare-filled}
+use Rattle.circle_rules.specs.Call.{circleOwn, circleQuestions, circleAnswer}
 use Rattle.grid.proofs.Radii.{left-radius, left-refusal}
-use Rattle.circle.proofs.Calls.{circle-passed, circle-refused, circle-answered}
+use Rattle.circle_rules.proofs.Calls.{circle-passed, circle-refused, circle-answered}
 use Rattle.kernel.proofs.Placing.{rows-placed, rows-people}
 use Rattle.circle.proofs.Accepted.{to-fill, to-build, to-sum, summed-up}
 use borrow.Author.Needs.{needs}

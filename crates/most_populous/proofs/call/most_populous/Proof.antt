@@ -4,7 +4,7 @@ use denote.Ref.{now}
 use Rattle.grid.specs.Map.{Map, lentMap}
 use Rattle.grid.specs.Answer.{firstNo, shown}
 use Rattle.grid.proofs.Answers.{PassedCall}
-use Rattle.sums.proofs.Tables.{bare-filled}
+use Rattle.sums_fill.proofs.Tables.{bare-filled}
 use Rattle.grid.proofs.Radii.{left-radius, left-refusal}
 use Rattle.most_populous.specs.Call.{Buffers, buffers, searchOwn, searchQuestions, searchAnswer}
 use Rattle.most_populous.proofs.SearchCalls.{search-passed, search-refused, search-answered, to-fill, to-search, searched-map}

@@ -1,6 +1,6 @@
 -- `search::radius::search_at`: nothing at radius 0, and otherwise what the levels find.
 use mathlib.Core.Path.{_∙_}
-use Rattle.search.proofs.Search.{search-none, search-found}
+use Rattle.search_rules.proofs.Search.{search-none, search-found}
 use borrow.Author.Needs.{needs}
 use Rattle.search.proofs.radius.search_at.Statement.{statement}
 use Rattle.search.proofs.radius.search_at.Tie as tie

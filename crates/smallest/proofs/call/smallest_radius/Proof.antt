@@ -5,7 +5,7 @@ use borrow.Author.Needs.{needs}
 use Rattle.grid.specs.Answer.{firstNo}
 use Rattle.grid.specs.Map.{Map, lentMap}
 use Rattle.grid.proofs.Answers.{PassedCall}
-use Rattle.sums.proofs.Tables.{bare-filled}
+use Rattle.sums_fill.proofs.Tables.{bare-filled}
 use Rattle.smallest_rules.specs.Call.{smallestOwn, smallestQuestions}
 use Rattle.smallest_rules.proofs.SmallestCalls.{smallest-passed, smallest-refused, smallest-answered}
 use Rattle.smallest.proofs.Settling.{to-fill, to-settle, settled-map}

@@ -163,14 +163,14 @@ module _ (c : tie.Joined1 Inv-loop μ-loop) where
 
 -- ---- the exact kernel, and a survivor's population
 
-exact-is : (c : tie.Joined5 Inv-loop μ-loop) → let h = turn (asked (c .before)) in
-    let a = start-of (head-of h) .args in
-    KernelAt (a .grid) (now (a .angles)) (probe (block-of h) .row) (a .km) (c .if5 .exact)
+abbrev ExactAt : tie.After-odd-columns Inv-loop μ-loop → Kernel → Type 0
+ExactAt h k = let a = start-of (head-of h) .args in KernelAt (a .grid) (now (a .angles)) (probe (block-of h) .row) (a .km) k
+
+exact-is : (c : tie.Joined5 Inv-loop μ-loop) → ExactAt (turn (asked (c .before))) (c .if5 .exact)
 exact-is c =
     let h = turn (asked (c .before)) in
-    let a = start-of (head-of h) .args in
     let p = h .before .probe in
-    ⊎-elim (λ w. kernel-kept _ _ (p .result .row) _ (c .if5 .exact) (w .2 ∙ w .1 .ensures) (probe (block-of h) .row) (ap (λ (x : Cell). x .row .0) (p .ensures)))
+    ⊎-elim {C = ExactAt h (c .if5 .exact)} (λ w. kernel-kept _ _ (p .result .row) _ (c .if5 .exact) (w .2 ∙ w .1 .ensures) (probe (block-of h) .row) (ap (λ (x : Cell). x .row .0) (p .ensures)))
     (λ w. w .1 ∙ kernel-kept _ _ (head-of h .loop .exact .row) _ (head-of h .loop .exact) (head-of h .loop .inv .1) (probe (block-of h) .row)
     (eqb-true _ _ (sym (c .before .same-row .ensures) ∙ not-false _ (w .0 .left)) ∙ ap (λ (x : Cell). x .row .0) (p .ensures)))
     (c .if5 .came)

@@ -1,0 +1,5 @@
+pub mod Ring
+pub mod Searches
+pub mod Radii
+pub mod Facts
+pub mod Job

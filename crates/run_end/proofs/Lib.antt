@@ -1,0 +1,2 @@
+-- What the end of a run gives.
+pub mod Ends

@@ -1,0 +1,4 @@
+pub mod Best
+pub mod Search
+pub mod State
+pub mod Requires
