@@ -10,7 +10,6 @@ use lib.Seq.{take-all, length-take-le}
 use mir.Val.{Val}
 use denote.Laws.{Is}
 use Rattle.lists.proofs.Bools.{cases}
-use Rattle.grid.specs.Grid.{cells, angleCount}
 use Rattle.grid.specs.Map.{lentMap}
 use Rattle.job_world.specs.declared.JobState.{JobState}
 use Rattle.job_sizes.specs.Sizes.{jobRows, jobCells, jobAngles, placesOf}

@@ -17,11 +17,9 @@ use Rattle.sums_fill.proofs.Tables.{bare-filled, globe-map}
 use Rattle.spacing.specs.declared.Spacing.{Spacing}
 use Rattle.levels.specs.State.{summedMap}
 use Rattle.most_populous.specs.Call.{Buffers}
-use Rattle.most_populous.specs.Call.{Buffers, buffers, buffersAfter}
 use Rattle.most_populous.proofs.SearchCalls as searching
 use Rattle.most_populous.proofs.SearchCalls.{to-search}
 use Rattle.ledger.specs.declared.Ledger.{Ledger}
-use Rattle.climb.specs.Climb.{mostRadii}
 use Rattle.share.specs.declared.Target.{Target}
 use Rattle.share.specs.Target.{predicateSlackPersons, targetOf}
 use Rattle.probes.specs.declared.Ran.{Ran}

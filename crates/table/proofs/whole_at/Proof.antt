@@ -10,7 +10,7 @@ use Rattle.table.proofs.whole as work
 use Rattle.table.proofs.whole.Symbol as work-def
 use Rattle.table.proofs.whole.Symbol.{name as #table·whole}
 use Rattle.table.proofs.whole.Met as work-thm
-use Rattle.hand_proofs.proofs.Walks.{_≡_, refl, ℕ, [], _∷_, List, URA, erased, Val, SProp, ent, sep, id⊢, Lft, Share, Fml, ftrue, Memory, Routine, Heap, Calls, Loops, WpFn, Tables, Atoms, sem, Fun, givenOf, tables, tablesOf, FmC, fmOf, owns, mirs, Typed, RefT, now, typesAt, Contract, Triple, ensured, lasts, Meets, tripleOf, entered, cited}
+use Rattle.hand_proofs.proofs.Walks.{_≡_, refl, ℕ, [], _∷_, List, URA, erased, Val, SProp, ent, sep, id⊢, Lft, Share, Fml, ftrue, Memory, Routine, Heap, Calls, Loops, WpFn, Tables, Atoms, sem, Fun, givenOf, tables, tablesOf, FmC, fmOf, mirs, Typed, RefT, now, typesAt, Contract, Triple, ensured, lasts, Meets, tripleOf, entered, cited}
 use Rattle.hand_proofs.proofs.Walks.{Given, ‵, raw, given, later, _⊛_, _$_, _∵_, !, qed, by, move, use1, use2, split, learn, await, look, init, stop, from, and-then, no-more, land, returns, enter, alloc1, alloc0, params1, pass1, pass0, free0, calls-at}
 use Rattle.hand_proofs.proofs.Walks.{arg, gone, hands, told, met}
 use Rattle.table.proofs.Parts.{gridVal, sumsVal, Tok, gridLaw, sumsLaw}

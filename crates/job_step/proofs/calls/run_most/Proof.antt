@@ -1,5 +1,5 @@
 -- M by its answer: found, refused.
-use mathlib.Core.Path.{refl, _∙_}
+use mathlib.Core.Path.{_∙_}
 use Rattle.job_step.proofs.Lent.{most-found, most-refused}
 use borrow.Author.Needs.{needs}
 use Rattle.job_step.proofs.calls.run_most.Statement.{statement}

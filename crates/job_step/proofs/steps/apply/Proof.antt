@@ -1,6 +1,5 @@
 -- The first command or a later one, by whether the job has begun.
 use mathlib.Core.Path.{_∙_}
-use borrow.Author.Tests.{not-true}
 use Rattle.job_rules.proofs.Commands.{first-applied, later-applied}
 use borrow.Author.Needs.{needs}
 use Rattle.job_step.proofs.steps.apply.Statement.{statement}

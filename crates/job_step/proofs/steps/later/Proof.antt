@@ -1,5 +1,5 @@
 -- Each command by its own function; a second G is refused.
-use mathlib.Core.Path.{refl, _∙_}
+use mathlib.Core.Path.{_∙_}
 use Rattle.job_rules.proofs.Commands.{second-grid}
 use borrow.Author.Needs.{needs}
 use Rattle.job_step.proofs.steps.later.Statement.{statement}
