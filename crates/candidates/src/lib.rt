@@ -1,4 +1,6 @@
 // Candidates: a centre with the population of its circle, and which of two is better.
+#![tactic(auto)]
+
 mod compare;
 
 ghost use Rattle.std.specs.Prelude.{◌≡◌};
@@ -8,7 +10,7 @@ pub use compare::{better, better_held, prunes};
 use grid::{Cell, Col, Row};
 
 // A cell with the number of people in its circle.
-#[derive(Drop)]
+#[derive(Clone, Copy)]
 pub struct Candidate {
     pub row: Row,
     pub col: Col,
@@ -31,7 +33,7 @@ impl Candidate {
 }
 
 // The best candidate so far, if there is one.
-#[derive(Drop)]
+#[derive(Clone, Copy)]
 pub enum Held {
     Nobody,
     Best(Candidate),

@@ -1,4 +1,6 @@
 // Where a level is cut into chunks, and a chunk at work: what it holds, counts and keeps at hand, block by block.
+#![tactic(auto)]
+
 mod cut;
 mod kept;
 mod work;
@@ -11,7 +13,7 @@ use tally::Tally;
 pub use work::{asks, examined, survives};
 
 // A chunk at work: what it holds, its counts, the row and radius of the wide kernel before and the row of the exact one.
-#[derive(Drop)]
+#[derive(Clone, Copy)]
 pub struct ChunkWork {
     pub held: Held,
     pub tally: Tally,

@@ -1,4 +1,5 @@
 // The single-circle call: the people of a circle, or a refusal.
+#![tactic(auto)]
 
 mod call;
 

@@ -1,1 +1,2 @@
 // Circles: definitions and laws of the cells that a circle holds, and of their people.
+#![tactic(auto)]

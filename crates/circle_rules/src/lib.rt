@@ -1,4 +1,6 @@
 // The rules of the single-circle call: its questions, and what it gives. `circle` has the code that fills the sums and counts.
+#![tactic(auto)]
+
 ghost use Rattle.std.specs.Prelude.{◌≡◌};
 ghost use Rattle.grid.specs.Map.{lent_map};
 ghost use Rattle.grid.specs.Answer.{first_no};
@@ -8,7 +10,7 @@ ghost use Rattle.circle_rules.specs.Call.{circle_questions};
 use grid::{Asked, Cell, Grid, RadiusFound, RadiusKm};
 
 // The population of a circle, or the number of the question that refused it.
-#[derive(Drop)]
+#[derive(Clone, Copy)]
 pub enum CircleAnswer {
     Population(u64),
     Refused(u32),

@@ -1,5 +1,7 @@
 // Runs the job on standard input, and prints its lines. Only reading and writing are assumed: what lies between is one call, and the output
 // buffer takes all that any job prints.
+#![tactic(auto)]
+
 use libc::{STDIN_FILENO, STDOUT_FILENO};
 
 // A byte more than a job may have, so that a longer one is told from it.

@@ -1,4 +1,6 @@
 // What crosses the C boundary: what each function of it gives, and an answer's words and floats. `jadurphen` has the functions.
+#![tactic(auto)]
+
 mod searched;
 mod settled;
 

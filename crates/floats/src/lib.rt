@@ -1,4 +1,6 @@
 // The operations on binary64 that the Rust has beyond the operators, each equal to its definition at every value.
+#![tactic(auto)]
+
 ghost use Rattle.std.specs.Prelude.{◌≡◌, false};
 ghost use Rattle.floats.specs.Binary.{finite, absolute, greater, lesser, next_up};
 ghost use Rattle.std.specs.Float.Ieee as Ieee;

@@ -1,4 +1,6 @@
 // Rows, columns, cells and whole-kilometre radii, each a type of its own, and the grid that holds them.
+#![tactic(auto)]
+
 mod places;
 
 ghost use Rattle.std.specs.Prelude.{◌≡◌};
@@ -14,24 +16,24 @@ pub const MOST_COLUMNS: u32 = 180;
 pub const MOST_ROWS: u32 = 90;
 
 // A row and a column by number: types of their own, so that neither serves as the other.
-#[derive(Drop)]
+#[derive(Clone, Copy)]
 pub struct Row(pub u32);
 
-#[derive(Drop)]
+#[derive(Clone, Copy)]
 pub struct Col(pub u32);
 
-#[derive(Drop)]
+#[derive(Clone, Copy)]
 pub struct Cell {
     pub row: Row,
     pub col: Col,
 }
 
 // A radius in whole kilometres.
-#[derive(Drop)]
+#[derive(Clone, Copy)]
 pub struct RadiusKm(pub u32);
 
 // Rows go south by index where the latitude step is below 0, columns go around the ring. No longitude is kept: distances read differences alone.
-#[derive(Drop)]
+#[derive(Clone, Copy)]
 pub struct Grid {
     pub width: u32,
     pub height: u32,
@@ -41,26 +43,26 @@ pub struct Grid {
 }
 
 // The row, the column and the radius of a number, where there is one.
-#[derive(Drop)]
+#[derive(Clone, Copy)]
 pub enum RowFound {
     On(Row),
     Off,
 }
 
-#[derive(Drop)]
+#[derive(Clone, Copy)]
 pub enum ColFound {
     On(Col),
     Off,
 }
 
-#[derive(Drop)]
+#[derive(Clone, Copy)]
 pub enum RadiusFound {
     Within(RadiusKm),
     Beyond,
 }
 
 // What the questions of a call leave: the radius that it goes on with, or the number of the first question that is answered no.
-#[derive(Drop)]
+#[derive(Clone, Copy)]
 pub enum Asked {
     Radius(RadiusKm),
     Refused(u32),

@@ -1,4 +1,6 @@
 // Questions 1 to 3, each of any grid, and the first refusal of a grid. They are defined beside the map's, in `grid/specs/Questions.antt`.
+#![tactic(auto)]
+
 ghost use Rattle.std.specs.Prelude.{◌≡◌};
 ghost use Rattle.grid.specs.Answer.{first_no};
 ghost use Rattle.grid.specs.Questions.{sizes_in_range, latitude_in_range, latitudes_in_range, columns_close, grid_questions};

@@ -1,4 +1,6 @@
 // The commands of a job, read from bytes.
+#![tactic(auto)]
+
 mod bytes;
 mod decoding;
 
@@ -6,7 +8,7 @@ pub use decoding::decode;
 use grid::{Cell, Grid, Row};
 
 // Spacings of 0 are automatic.
-#[derive(Drop)]
+#[derive(Clone, Copy)]
 pub enum Command {
     SetGrid(Grid),
     SetCount {
@@ -35,7 +37,7 @@ pub enum Command {
 }
 
 // A command and the place of the byte after it, or bytes that begin with none.
-#[derive(Drop)]
+#[derive(Clone, Copy)]
 pub enum Decoded {
     Read { command: Command, next: usize },
     Malformed,

@@ -1,11 +1,13 @@
 // The lines that a job prints.
+#![tactic(auto)]
+
 mod decimal;
 mod text;
 
 pub use text::{blank, least_line, most_line, refused_line};
 
 // The first len bytes are the line, its end of line with it; a line of no bytes is none.
-#[derive(Drop)]
+#[derive(Clone, Copy)]
 pub struct Line {
     pub len: usize,
     pub bytes: [u8; Line::ROOM],
@@ -19,7 +21,7 @@ impl Line {
 }
 
 // A number in decimal: the bytes from place from on.
-#[derive(Drop)]
+#[derive(Clone, Copy)]
 pub struct Digits {
     pub from: usize,
     pub bytes: [u8; Digits::MOST],

@@ -1,4 +1,6 @@
 // The whole job: its lines, one behind the other, in a lent buffer.
+#![tactic(auto)]
+
 ghost use Rattle.std.specs.Prelude.{◌≡◌, ◌+◌, ◌≤◌, ◌<◌, ◌^◌, length, set};
 ghost use Rattle.ledger.specs.State.{fresh_ledger};
 ghost use Rattle.job_lines.specs.State.{line_room, text_of};

@@ -1,9 +1,11 @@
 // The rules of a job: what each command gives, what a step gives, and all lines of a job. They are definitions with their laws; `job_step` has the code.
+#![tactic(auto)]
+
 use job_lines::Line;
 use job_world::JobState;
 
 // What a command gives: the state after it, its line, and whether it is the last.
-#[derive(Drop)]
+#[derive(Clone, Copy)]
 pub struct Applied {
     pub state: JobState,
     pub line: Line,
@@ -11,7 +13,7 @@ pub struct Applied {
 }
 
 // What a step gives: the same, and the place of the byte after its command.
-#[derive(Drop)]
+#[derive(Clone, Copy)]
 pub struct StepResult {
     pub state: JobState,
     pub line: Line,

@@ -1,4 +1,6 @@
 // The largest grid that a job takes, the indices that are on a grid, and the places that its map takes in arrays of fixed length.
+#![tactic(auto)]
+
 mod arrays;
 mod indices;
 
@@ -18,7 +20,7 @@ pub const ANGLES: usize = (ROWS * ROWS * (COLUMNS / 2 + 1)) as usize;
 pub const SUMS: usize = ((COLUMNS + 1) * (ROWS + 1)) as usize;
 
 // How many places of each array a map takes.
-#[derive(Drop)]
+#[derive(Clone, Copy)]
 pub struct Places {
     pub counts: usize,
     pub angles: usize,
@@ -26,13 +28,13 @@ pub struct Places {
 }
 
 // C's cell and A's rows and offset, where they are on the grid; K's row is the grid's own constructor's.
-#[derive(Drop)]
+#[derive(Clone, Copy)]
 pub enum CellFound {
     On(Cell),
     Off,
 }
 
-#[derive(Drop)]
+#[derive(Clone, Copy)]
 pub enum AngleFound {
     On { centre: Row, row: Row, offset: u32 },
     Off,

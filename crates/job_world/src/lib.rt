@@ -1,4 +1,6 @@
 // The world under way in a job: a map in arrays of fixed length, and its ledger.
+#![tactic(auto)]
+
 mod state;
 
 use grid::Grid;
@@ -6,7 +8,7 @@ use ledger::Ledger;
 pub use state::{start, with_angle, with_cosine, with_count, with_grid, with_ledger};
 
 // The map under way and its ledger. Of the arrays the map takes as many places as its grid has; before G it takes none.
-#[derive(Drop)]
+#[derive(Clone, Copy)]
 pub struct JobState {
     pub begun: bool,
     pub grid: Grid,

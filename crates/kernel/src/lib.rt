@@ -1,4 +1,6 @@
 // Kernels of circles: sets of cells, built for a row and a radius.
+#![tactic(auto)]
+
 mod band;
 mod runs;
 
@@ -10,7 +12,7 @@ pub const ROWS: usize = grid::MOST_ROWS as usize;
 
 // The circles of a radius around the cells of a row: in each row from north up to end, how many columns from the centre's one on either
 // side are within, the centre's own included, and where the rows of the same reach that follow it end.
-#[derive(Drop)]
+#[derive(Clone, Copy)]
 pub struct Kernel {
     pub row: Row,
     pub km: f64,

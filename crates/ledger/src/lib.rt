@@ -1,5 +1,7 @@
 // The ledger of best circles by whole kilometre: its types, and a fresh one. What it holds and what is asked of it stands in `specs/Ledger.antt`;
 // `ledger_store` reads and changes it, `ledger_questions` judges it.
+#![tactic(auto)]
+
 ghost use Rattle.std.specs.Prelude.{◌≡◌};
 ghost use Rattle.ledger.specs.State.{fresh_ledger};
 
@@ -7,14 +9,14 @@ use candidates::Candidate;
 use grid::{Cell, Col, RadiusKm, Row};
 
 // The best circle at a radius.
-#[derive(Drop)]
+#[derive(Clone, Copy)]
 pub struct Entry {
     pub km: RadiusKm,
     pub centre: Candidate,
 }
 
 // The first len places hold the entries; the others hold anything.
-#[derive(Drop)]
+#[derive(Clone, Copy)]
 pub struct Ledger {
     pub len: usize,
     pub places: [Entry; Ledger::CAPACITY],
@@ -26,7 +28,7 @@ impl Ledger {
 }
 
 // What a ledger holds of a kilometre.
-#[derive(Drop)]
+#[derive(Clone, Copy)]
 pub enum Got {
     Circle(Candidate),
     Nothing,

@@ -1,4 +1,6 @@
 // Questions 11 and 12, put to any ledger whatever.
+#![tactic(auto)]
+
 ghost use Rattle.std.specs.Prelude.{◌≡◌, ◌&&◌, leb, ltb};
 ghost use Rattle.grid.specs.Grid.{ceiling};
 ghost use Rattle.ledger.specs.Ledger.{capacity, entry_in_bounds, ledger_in_order, places_free, place_for, get};

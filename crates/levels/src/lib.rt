@@ -1,9 +1,11 @@
 // One level of a search: definitions and laws, and what a level comes to. Crate `sweep` goes through the blocks.
+#![tactic(auto)]
+
 use candidates::Held;
 use tally::Tally;
 
 // What a chunk or a level came to, and the place after the children that it wrote.
-#[derive(Drop)]
+#[derive(Clone, Copy)]
 pub struct ChunkResult {
     pub held: Held,
     pub tally: Tally,

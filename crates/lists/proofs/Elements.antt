@@ -99,6 +99,7 @@ module _ {A B : Type 0} {P : B → Type 0} {Q : A → Type 0} where
 
   pub any_of_each : (f : A → B) → ((x : A) → P (f x) → Q x) → (xs : List A) → AnyOf P (each f xs) → AnyOf Q xs
   unfolding each
+  any_of_each f g [] x = elim x [ ]
   any_of_each f g (x ∷ xs) (here p) = here (g x p)
   any_of_each f g (x ∷ xs) (there a) = there (any_of_each f g xs a)
 

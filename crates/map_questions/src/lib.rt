@@ -1,4 +1,6 @@
 // Questions 4 to 6, which a map is asked after its grid's, and the first refusal of a sheet and of a map.
+#![tactic(auto)]
+
 mod complete;
 mod order;
 mod refusals;

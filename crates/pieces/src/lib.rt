@@ -1,4 +1,6 @@
 // A block's children and the grid's first blocks, written as words into a level's buffer.
+#![tactic(auto)]
+
 ghost use Rattle.std.specs.Prelude.{◌≡◌, ◌+◌, ◌-◌, ◌≤◌, min, length};
 ghost use Rattle.lists.specs.Lists.{each};
 ghost use Rattle.blocks.specs.Block.{range, split, tile};

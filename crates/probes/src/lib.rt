@@ -1,5 +1,7 @@
 // The probes of a smallest radius, the run that they make, and the fields of its answer. What they are stands in `specs/`; `run_state` carries a run
 // from probe to probe, `run` goes through it.
+#![tactic(auto)]
+
 use candidates::Candidate;
 use grid::RadiusKm;
 use ledger::Ledger;
@@ -7,14 +9,14 @@ use share::Target;
 use tally::SearchStats;
 
 // The short witness: the short probe right below the answer, if there was one.
-#[derive(Drop)]
+#[derive(Clone, Copy)]
 pub enum ShortBelow {
     Witness { km: RadiusKm, population: u64 },
     Absent,
 }
 
 // The probes within the slack: their smallest and largest kilometre, and how many they are.
-#[derive(Drop)]
+#[derive(Clone, Copy)]
 pub enum Ambiguity {
     Radii {
         lowest_km: RadiusKm,
@@ -25,7 +27,7 @@ pub enum Ambiguity {
 }
 
 // How many radii were searched and how many the ledger held, and the counts of the searches.
-#[derive(Drop)]
+#[derive(Clone, Copy)]
 pub struct SmallestStats {
     pub radii_evaluated: u64,
     pub radii_reused: u64,
@@ -33,7 +35,7 @@ pub struct SmallestStats {
 }
 
 // The smallest radius whose fullest circle reaches the target, with all that tells how sure it is.
-#[derive(Drop)]
+#[derive(Clone, Copy)]
 pub struct Smallest {
     pub radius_km: RadiusKm,
     pub centre: Candidate,
@@ -49,7 +51,7 @@ pub struct Smallest {
 
 // A run after some probes: whether the latest reached, what the lowest that reached found, the latest that fell short, the ambiguity and
 // the counts. The ledger is large and stands beside it.
-#[derive(Drop)]
+#[derive(Clone, Copy)]
 pub struct RunState {
     pub reached: bool,
     pub found: Candidate,
@@ -59,7 +61,7 @@ pub struct RunState {
 }
 
 // Where a run has ended: the lowest radius that reached, or the ceiling where all fell short, and what its answer is made of.
-#[derive(Drop)]
+#[derive(Clone, Copy)]
 pub struct RunEnd {
     pub radius_km: RadiusKm,
     pub reached: bool,
@@ -70,7 +72,7 @@ pub struct RunEnd {
 }
 
 // A run's end beside the ledger after it.
-#[derive(Drop)]
+#[derive(Clone, Copy)]
 pub struct Ran {
     pub end: RunEnd,
     pub ledger: Ledger,

@@ -1,4 +1,6 @@
 // The run: probes from the first radius until the bracket is closed.
+#![tactic(auto)]
+
 ghost use Rattle.std.specs.Prelude.{◌≡◌};
 ghost use Rattle.levels.specs.State.{summed_map};
 ghost use Rattle.probes.specs.Requires.{CanRun};

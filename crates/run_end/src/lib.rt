@@ -1,4 +1,6 @@
 // Where the run of a smallest radius has ended, and the answer from there.
+#![tactic(auto)]
+
 ghost use Rattle.std.specs.Prelude.{◌≡◌};
 ghost use Rattle.grid.specs.Map.{sheet_of};
 ghost use Rattle.reach.specs.Requires.{OnSheet};

@@ -1,4 +1,6 @@
 // The state of a run: how it begins, and what a probe adds to it, reused or searched.
+#![tactic(auto)]
+
 mod probe;
 mod state;
 

@@ -1,4 +1,6 @@
 // The search: levels until no block is left.
+#![tactic(auto)]
+
 mod descend;
 mod radius;
 

@@ -1,4 +1,6 @@
 // What a search is: its definitions with their laws, its answer, and what the levels come to. `search` goes through the levels.
+#![tactic(auto)]
+
 ghost use Rattle.std.specs.Prelude.{◌≡◌, ◌+◌, ◌≤◌, ◌^◌};
 ghost use Rattle.candidates.specs.declared.Held.TheVariants.{Nobody};
 ghost use Rattle.candidates.specs.Candidate.{north_west};
@@ -13,7 +15,7 @@ use levels::ChunkResult;
 use tally::{SearchStats, Tally};
 
 // What the levels have come to.
-#[derive(Drop)]
+#[derive(Clone, Copy)]
 pub struct SearchResult {
     pub held: Held,
     pub tally: Tally,
@@ -21,7 +23,7 @@ pub struct SearchResult {
 
 // The best circle of a radius, and the counts of the search. The tolerance is 0 persons: counts are whole numbers, and a block is pruned
 // only where its bound is below the circle held.
-#[derive(Drop)]
+#[derive(Clone, Copy)]
 pub struct MostPopulous {
     pub centre: Candidate,
     pub radius: RadiusKm,

@@ -1,4 +1,6 @@
 // The target and what is measured against it, operation for operation.
+#![tactic(auto)]
+
 ghost use Rattle.std.specs.Prelude.{◌≡◌, ◌≤◌, ◌^◌};
 ghost use Rattle.share.specs.Target.{share_in_range, target_of, reaches, within_slack, predicate_slack_persons, share_of};
 
@@ -6,7 +8,7 @@ use candidates::Candidate;
 use grid::Grid;
 
 // A share of the total, and the persons it comes to.
-#[derive(Drop)]
+#[derive(Clone, Copy)]
 pub struct Target {
     pub share: f64,
     pub persons: f64,

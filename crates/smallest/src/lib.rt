@@ -1,4 +1,5 @@
 // The smallest-radius call: the smallest radius whose fullest circle reaches a share of the people, or a refusal.
+#![tactic(auto)]
 
 mod call;
 

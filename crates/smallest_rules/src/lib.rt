@@ -1,4 +1,6 @@
 // The rules of the smallest-radius call: its own questions, and what it gives. They are definitions with their laws; `smallest` has the code.
+#![tactic(auto)]
+
 ghost use Rattle.std.specs.Prelude.{◌≡◌};
 ghost use Rattle.grid.specs.Answer.{first_no};
 ghost use Rattle.smallest_rules.specs.Call.{own_questions};
@@ -10,14 +12,14 @@ use probes::Smallest;
 use spacing::Spacing;
 
 // The smallest radius, or the number of the refusal.
-#[derive(Drop)]
+#[derive(Clone, Copy)]
 pub enum SmallestAnswer {
     Found(Smallest),
     Refused(u32),
 }
 
 // The call's answer beside the ledger after it.
-#[derive(Drop)]
+#[derive(Clone, Copy)]
 pub struct SmallestResult {
     pub answer: SmallestAnswer,
     pub ledger: Ledger,

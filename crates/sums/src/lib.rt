@@ -1,4 +1,6 @@
 // Prefix sums of the counts in a lent buffer, and the people of bands of rows and spans of columns by four words or six. Crate `sums_fill` fills it.
+#![tactic(auto)]
+
 ghost use Rattle.std.specs.Prelude.{◌≡◌};
 ghost use Rattle.sums.specs.Sums.{corner as cornerOf, rectangle_population, band_population};
 ghost use Rattle.sums.specs.State.{table_map};
@@ -7,21 +9,21 @@ ghost use Rattle.sums.specs.Requires.{Summed, AtCorner, OnTable, StripOnTable, I
 use grid::{Col, Grid, Row};
 
 // The rows from north to south, both included.
-#[derive(Drop)]
+#[derive(Clone, Copy)]
 pub struct RowBand {
     pub north: Row,
     pub south: Row,
 }
 
 // The rows from north to before end, by which corners are read.
-#[derive(Drop)]
+#[derive(Clone, Copy)]
 pub struct Rows {
     pub north: u32,
     pub end: u32,
 }
 
 // The columns from west eastward to east, both included; across the seam where west is the greater.
-#[derive(Drop)]
+#[derive(Clone, Copy)]
 pub struct ColSpan {
     pub west: Col,
     pub east: Col,

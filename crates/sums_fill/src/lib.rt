@@ -1,4 +1,6 @@
 // Filling the prefix sums of crate `sums`: whether a lent buffer has room for them, and the words of a map's counts at its front.
+#![tactic(auto)]
+
 ghost use Rattle.std.specs.Prelude.{◌≡◌, ◌+◌, ◌≤◌, length};
 ghost use Rattle.lists.specs.Front.{over};
 ghost use Rattle.sums.specs.Sums.{sums_word, sums_fit, filled_sums};

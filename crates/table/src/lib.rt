@@ -1,5 +1,7 @@
 // A table: a grid and the slice of its sums. Its functions take it apart and call those of crate `sums`; those whose names end in `_at` make it
 // from plain parameters and go through it, so that whoever calls them needs no walk by hand.
+#![tactic(auto)]
+
 ghost use Rattle.std.specs.Prelude.{◌≡◌, ◌<◌, ◌^◌, leb};
 ghost use Rattle.grid.specs.Grid.{closing};
 ghost use Rattle.sums.specs.Sums.{band_of, span_of, total, band_population, band_span};
@@ -10,7 +12,7 @@ use grid::{Col, Grid, Row};
 use sums::{ColSpan, RowBand, Rows};
 
 // The grid, and the prefix sums of its counts in a buffer that is lent for as long as the table is used.
-#[derive(Drop)]
+#[derive(Clone, Copy)]
 pub struct Table<'a> {
     pub grid: Grid,
     pub sums: &'a [u64],

@@ -1,10 +1,12 @@
 // The counts of a search: how they are made and added.
+#![tactic(auto)]
+
 mod add;
 
 pub use add::{plus, plus_stats};
 
 // The counts of the original.
-#[derive(Drop)]
+#[derive(Clone, Copy)]
 pub struct SearchStats {
     pub levels: u32,
     pub blocks_examined: u64,
@@ -14,7 +16,7 @@ pub struct SearchStats {
 }
 
 // The counts of a search: those of the original, and the cells of pruned blocks and of single-cell blocks evaluated.
-#[derive(Drop)]
+#[derive(Clone, Copy)]
 pub struct Tally {
     pub stats: SearchStats,
     pub cells_pruned: u64,

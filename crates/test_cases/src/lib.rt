@@ -1,5 +1,7 @@
 // What the test programs over the C boundary share: the map that a list's lines set, and the boundary's calls on that map, by
 // which a test goes the way that a studio's code goes.
+#![tactic(auto)]
+
 mod calls;
 mod map;
 mod sizes;

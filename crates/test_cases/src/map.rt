@@ -6,7 +6,7 @@ use grid::Grid;
 
 // The grid, and how much of each array a call is lent: of counts, angles and cosines as many as were listed last. The words
 // filled are those of the sums that an answer fills, for who looks at them.
-#[derive(Drop)]
+#[derive(Clone, Copy)]
 pub struct Map {
     pub grid: Grid,
     pub counts: usize,

@@ -1,5 +1,7 @@
 // The edges of the calls, played through: cases.txt names each case, sets what it is asked on, and asks. README.md has the
 // format of the list, and what a printed line says.
+#![tactic(auto)]
+
 mod judge;
 mod ledgers;
 mod play;

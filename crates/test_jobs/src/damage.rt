@@ -3,7 +3,7 @@
 use crate::text;
 
 // What copies printed: by the refusal's number, 0 for none and 31 for anything but such lines.
-#[derive(Drop)]
+#[derive(Clone, Copy)]
 pub struct Tally {
     pub copies: u64,
     pub by: [u64; 32],

@@ -1,5 +1,7 @@
 // Plays two lists of jobs: what each job prints is compared with its list, and damaged copies of the short ones are run.
 // README.md has the format.
+#![tactic(auto)]
+
 mod damage;
 mod text;
 
@@ -7,7 +9,7 @@ use damage::Tally;
 use libc::STDOUT_FILENO;
 
 // The jobs of a list, and what damaged copies printed.
-#[derive(Drop)]
+#[derive(Clone, Copy)]
 pub struct Score {
     pub agree: u64,
     pub differ: u64,

@@ -1,7 +1,7 @@
 // The lists of jobs, byte by byte: README.md has their format.
 
 // A job's bytes so far, and the first digit of the next one; 16 where there is none.
-#[derive(Drop)]
+#[derive(Clone, Copy)]
 pub struct Bytes {
     pub len: usize,
     pub high: u8,

@@ -1,4 +1,6 @@
 // The lists of the test programs: lines, each a letter and its numbers, and what a number stands for.
+#![tactic(auto)]
+
 mod numbers;
 mod reader;
 mod text;

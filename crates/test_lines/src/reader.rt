@@ -6,7 +6,7 @@ use crate::{numbers, text};
 
 // What is known between two bytes, and at the end: the letter, or 0 where a byte was not in its place; how many numbers
 // there are, and the last of them.
-#[derive(Drop)]
+#[derive(Clone, Copy)]
 pub struct Line {
     pub tag: u8,
     pub count: usize,

@@ -1,5 +1,7 @@
 // Replays the list of the original's answers, answers.txt: puts each call to the module and says how many answers agree
 // and how many differ; how many lines there are, and how many are not of the format. README.md has the format.
+#![tactic(auto)]
+
 mod play;
 mod score;
 
@@ -19,7 +21,7 @@ const ANGLES: usize = 17856;
 const ROWS: usize = 90;
 
 // What is known between two lines: the map that they have set, and what was seen.
-#[derive(Drop)]
+#[derive(Clone, Copy)]
 pub struct Replay {
     pub map: Map,
     pub score: Score,

@@ -1,6 +1,6 @@
 // What was seen of the list: by their letter lines that agree with the module and that differ, those not of the format,
 // and whether the last one is the list's end.
-#[derive(Drop)]
+#[derive(Clone, Copy)]
 pub struct Score {
     pub seen: [u64; 64],
     pub lines: u64,

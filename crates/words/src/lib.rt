@@ -1,4 +1,6 @@
 // A ledger as lent words: word 0 the number of entries, then kilometre, row, column and population of each place.
+#![tactic(auto)]
+
 ghost use Rattle.std.specs.Prelude.{◌≡◌, true, ◌++◌, ◌<◌, ◌+◌, ◌^◌, ltb, length, take, drop};
 ghost use Rattle.ledger.specs.Ledger.{capacity};
 ghost use Rattle.words.specs.Words.{entry_words, ledger_length, place_fits, ledger_fits, place_at, read_ledger, ledger_of, ledger_words};
