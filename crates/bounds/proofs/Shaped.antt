@@ -22,9 +22,9 @@ abbrev slack_from : Globe → Row → Row → Row → ℕ → Float
 slack_from s row north south side =
     let g = s.grid in
     let lat = centre_lat g row in
-    let deltaLat = greater (absolute (centre_lat g north ⊖ lat)) (absolute (centre_lat g south ⊖ lat)) in
-    let deltaLon = whole side ⊗ absolute g.lon_step in
-    arc_km g (deltaLat ⊗ radian ⊕ deltaLon ⊗ radian ⊗ cosine_at s row) ⊗ slack_margin
+    let delta_lat = greater (absolute (centre_lat g north ⊖ lat)) (absolute (centre_lat g south ⊖ lat)) in
+    let delta_lon = whole side ⊗ absolute g.lon_step in
+    arc_km g (delta_lat ⊗ radian ⊕ delta_lon ⊗ radian ⊗ cosine_at s row) ⊗ slack_margin
 
 slack_from_lem : (s : Globe) (b : Block) → slack_km s b ≡ slack_from s (probe b).row b.north b.south (far_side b)
 unfolding slack_km

@@ -22,9 +22,9 @@ slack_km s b =
     let lat = centre_lat g p.row in
     let north = absolute (centre_lat g b.north ⊖ lat) in
     let south = absolute (centre_lat g b.south ⊖ lat) in
-    let deltaLat = greater north south in
-    let deltaLon = whole (max (p.col.0 - b.first.0) (b.last.0 - p.col.0)) ⊗ absolute g.lon_step in
-    let hops = deltaLat ⊗ radian ⊕ deltaLon ⊗ radian ⊗ cosine_at s p.row in
+    let delta_lat = greater north south in
+    let delta_lon = whole (max (p.col.0 - b.first.0) (b.last.0 - p.col.0)) ⊗ absolute g.lon_step in
+    let hops = delta_lat ⊗ radian ⊕ delta_lon ⊗ radian ⊗ cosine_at s p.row in
     arc_km g hops ⊗ slack_margin
 
 -- a radius widened by a slack: never below the radius, and the largest number where the sum is not finite

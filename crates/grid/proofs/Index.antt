@@ -26,11 +26,11 @@ module _ (g : Grid) (centre row : Row) (offset : ℕ) (i : InSheet g centre row 
   place_in = digits_lt pair_in (omega (arith, i.offset_on))
 
   -- the pair of rows, its first place, and the place
-  pub place-parts :
+  pub place_parts :
       (centre.0 * g.height + row.0 < most_angles) × ((centre.0 * g.height + row.0) * (g.width / 2 + 1) < most_angles)
       × ((centre.0 * g.height + row.0) * (g.width / 2 + 1) + offset < most_angles)
   unfolding closing sheet_index
-  place-parts =
+  place_parts =
       let small = sheet_small g.width g.height i.wide i.high in
       let one : (centre.0 * g.height + row.0) * 1 ≤ (centre.0 * g.height + row.0) * (g.width / 2 + 1) =
       mul-le-mul_left (centre.0 * g.height + row.0) (omega arith) in

@@ -54,12 +54,12 @@ examine m km w b =
 -- a chunk begins with what was held when its level began, and with two kernels that count as built: of the middle row and the plain radius
 unfoldable pub started : Map → Float → Held → Work
 started m km best =
-    let middleRow : Row = record { 0 = m.globe.grid.height / 2 } in
+    let middle_row : Row = record { 0 = m.globe.grid.height / 2 } in
     record {
       outcome = record { held = best; survivors = []; tally = tally (stats 0 0 0 0 2) 0 0 };
-      wide_row = middleRow;
+      wide_row = middle_row;
       wide_radius = km;
-      exact_row = middleRow;
+      exact_row = middle_row;
     }
 
 -- the blocks of a chunk in turn

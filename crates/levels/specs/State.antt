@@ -30,8 +30,8 @@ Serves g angles cosines km shape k = (b : Block) → Rectangle g b → same_shap
 -- a chunk that starts: two kernels at the middle row and the plain radius, which count as built
 unfoldable pub started_work : Grid → Float → Held → ChunkWork
 started_work g km best =
-    let middleRow : Row = record { 0 = g.height / 2 } in
-    record { held = best; tally = tally (stats 0 0 0 0 2) 0 0; wide_row = middleRow; wide_km = km; exact_row = middleRow }
+    let middle_row : Row = record { 0 = g.height / 2 } in
+    record { held = best; tally = tally (stats 0 0 0 0 2) 0 0; wide_row = middle_row; wide_km = km; exact_row = middle_row }
 
 -- ---- what a chunk or a level comes to
 

@@ -2,7 +2,7 @@
 #![tactic(auto)]
 
 ghost use Rattle.std.specs.Prelude.{◌≡◌};
-ghost use Rattle.sums.specs.Sums.{corner as cornerOf, rectangle_population, band_population};
+ghost use Rattle.sums.specs.Sums.{corner as corner_of, rectangle_population, band_population};
 ghost use Rattle.sums.specs.State.{table_map};
 ghost use Rattle.sums.specs.Requires.{Summed, AtCorner, OnTable, StripOnTable, InlandOnTable};
 
@@ -34,7 +34,7 @@ pub struct ColSpan {
 pub fn corner(grid: Grid, sums: &[u64], row: u32, col: u32) -> u64
     requires summed { Summed grid sums.now }
     requires at_corner { AtCorner grid row col }
-    ensures { result ≡ cornerOf (table_map grid sums.now) row col }
+    ensures { result ≡ corner_of (table_map grid sums.now) row col }
 {
     let stride = grid.width as usize + 1;
     let from = row as usize * stride;

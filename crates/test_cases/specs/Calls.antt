@@ -55,12 +55,12 @@ circle_played m lent asked sums population =
 
 -- a search of a map
 unfoldable pub search_played : Map → grid-map.Map → Bool → ℕ → ℕ → Buffers → List ℕ → Float → SearchCrossing
-search_played m lent automatic spacing km lentWords words tolerance =
-    let x = search_crossing lent (spacing_from automatic spacing) km (lent_fronts m lentWords) words tolerance in
-    record { number = x.number; words = x.words; tolerance = x.tolerance; lent = with_fronts m lentWords x.lent }
+search_played m lent automatic spacing km lent_words words tolerance =
+    let x = search_crossing lent (spacing_from automatic spacing) km (lent_fronts m lent_words) words tolerance in
+    record { number = x.number; words = x.words; tolerance = x.tolerance; lent = with_fronts m lent_words x.lent }
 
 -- a smallest radius of a map
 unfoldable pub smallest_played : Map → grid-map.Map → Bool → ℕ → Float → List ℕ → Buffers → List ℕ → List Float → SmallestCrossing
-smallest_played m lent automatic spacing share ledger lentWords words floats =
-    let x = smallest_crossing lent (spacing_from automatic spacing) share ledger (lent_fronts m lentWords) words floats in
-    record { number = x.number; ledger = x.ledger; words = x.words; floats = x.floats; lent = with_fronts m lentWords x.lent }
+smallest_played m lent automatic spacing share ledger lent_words words floats =
+    let x = smallest_crossing lent (spacing_from automatic spacing) share ledger (lent_fronts m lent_words) words floats in
+    record { number = x.number; ledger = x.ledger; words = x.words; floats = x.floats; lent = with_fronts m lent_words x.lent }
