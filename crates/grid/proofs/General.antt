@@ -6,11 +6,11 @@ use native.Mathlib.Omega.{arith}
 use borrow.Author.Tests.{not-true, not-false}
 
 -- what a function that returned r has said of d, where the code then tests `!r`
-pub said_no : {r d : Bool} → r ≡ d → not r ≡ true → d ≡ false
-said_no {r} e t = sym e ∙ not-true r t
+pub said_no : {r d : Bool} → r ≡ d → r ≡ false → d ≡ false
+said_no e t = sym e ∙ t
 
-pub said_yes : {r d : Bool} → r ≡ d → not r ≡ false → d ≡ true
-said_yes {r} e t = sym e ∙ not-false r t
+pub said_yes : {r d : Bool} → r ≡ d → r ≡ true → d ≡ true
+said_yes e t = sym e ∙ t
 
 -- a refusal that is not above 0
 pub no_number : {n m : ℕ} → n ≡ m → n ≤ 0 → m ≡ 0

@@ -1,0 +1,58 @@
+-- `sums::corner`: the word at a place of the sums, by the part of them that starts with its row.
+use Prim.Native.Nat.{ℕ, ◌+◌, ◌*◌, ◌-◌, ◌<◌}
+use mathlib.Core.Path.{◌≡◌, ap, ◌∙◌}
+use mathlib.Core.List.{List}
+use native.Mathlib.Nat.{le_refl}
+use native.Mathlib.Omega.{arith}
+use lib.ListN.{length, take, drop, get_or, length-drop}
+use lib.Seq.{get_or-drop}
+use borrow.Author.Rules.{part_to_end}
+use Rattle.sums.specs.Sums.{sums_words}
+use Rattle.sums.specs.State.{table_map}
+use Rattle.sums.proofs.Laws.{corner_read, corner_place}
+use borrow.Author.Rules.{rules}
+use Rattle.sums.proofs.corner.Lts as lts
+use Rattle.sums.proofs.corner.Reads as reads
+use Rattle.sums.proofs.corner.Goals as goal
+
+abbrev Start : Type 0
+Start = lts.Start reads.Pre reads.Post
+
+-- the word is within the sums
+within : (c : Start) → c.args.row * (c.args.grid.width + 1) + c.args.col < sums_words c.args.grid
+within c = corner_place (table_map c.args.grid c.args.sums.now) c.args.row c.args.col c.requires.1.row c.requires.1.col
+
+-- the part of a list from a place on: a place in it, and what is there
+part_place : (xs : List ℕ) (a k : ℕ) → a + k < length xs → k < length (take (length xs - a) (drop a xs))
+part_place xs a k h = rw (part_to_end xs a, length-drop a xs) (omega arith)
+
+part_read : (xs : List ℕ) (a k : ℕ) → get_or (take (length xs - a) (drop a xs)) k 0 ≡ get_or xs (a + k) 0
+part_read xs a k = ap (λ (l : List ℕ). get_or l k 0) (part_to_end xs a) ∙ get_or-drop a xs k 0
+
+pub overflow_mul-from : goal.overflow_mul-from
+overflow_mul-from c = omega (arith, within c.before.before, c.requires.0.room)
+
+pub offset_bounds-sums-from : goal.offset_bounds-sums-from
+offset_bounds-sums-from c = omega (arith, within c.before.before, c.requires.0.room)
+
+pub slice_bounds-words-count : goal.slice_bounds-words-count
+slice_bounds-words-count c = omega (arith, within c.before.before, c.requires.0.room)
+
+pub slice_bounds-words-start : goal.slice_bounds-words-start
+slice_bounds-words-start c = omega (arith, within c.before.before, c.requires.0.room)
+
+pub slice_bounds-words-end : goal.slice_bounds-words-end
+slice_bounds-words-end c = le_refl _
+
+pub offset_bounds-words-col : goal.offset_bounds-words-col
+offset_bounds-words-col c = omega (arith, within c.before.before.before, c.requires.0.room)
+
+pub bounds-words-col : goal.bounds-words-col
+bounds-words-col c = part_place c.args.sums.now _ c.args.col (omega (arith, within c.before.before.before.before, c.requires.0.room))
+
+pub returns : goal.returns
+returns c =
+    let a = c.args in
+    part_read a.sums.now _ a.col
+    ∙ corner_read (table_map a.grid a.sums.now) a.sums.now a.sums.now a.row a.col c.requires.0.words c.requires.1.row
+    c.requires.1.col
