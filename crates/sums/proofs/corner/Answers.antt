@@ -13,14 +13,15 @@ use Rattle.sums.proofs.Laws.{corner_read, corner_place}
 use borrow.Author.Rules.{rules}
 use Rattle.sums.proofs.corner.Lts as lts
 use Rattle.sums.proofs.corner.Reads as reads
+use Rattle.sums.proofs.corner.Tie as tie
 use Rattle.sums.proofs.corner.Goals as goal
 
 abbrev Start : Type 0
-Start = lts.Start reads.Pre reads.Post
+Start = lts.Start reads.Pre reads.Post tie.handed_clauses
 
 -- the word is within the sums
 within : (c : Start) → c.args.row * (c.args.grid.width + 1) + c.args.col < sums_words c.args.grid
-within c = corner_place (table_map c.args.grid c.args.sums.now) c.args.row c.args.col c.requires.1.row c.requires.1.col
+within c = corner_place (table_map c.args.grid c.args.sums.now) c.args.row c.args.col c.requires.at_corner.row c.requires.at_corner.col
 
 -- the part of a list from a place on: a place in it, and what is there
 part_place : (xs : List ℕ) (a k : ℕ) → a + k < length xs → k < length (take (length xs - a) (drop a xs))
@@ -30,29 +31,29 @@ part_read : (xs : List ℕ) (a k : ℕ) → get_or (take (length xs - a) (drop a
 part_read xs a k = ap (λ (l : List ℕ). get_or l k 0) (part_to_end xs a) ∙ get_or-drop a xs k 0
 
 pub overflow_mul-from : goal.overflow_mul-from
-overflow_mul-from c = omega (arith, within c.before.before, c.requires.0.room)
+overflow_mul-from c = omega (arith, within c.before.before, c.requires.summed.room)
 
 pub offset_bounds-sums-from : goal.offset_bounds-sums-from
-offset_bounds-sums-from c = omega (arith, within c.before.before, c.requires.0.room)
+offset_bounds-sums-from c = omega (arith, within c.before.before, c.requires.summed.room)
 
 pub slice_bounds-words-count : goal.slice_bounds-words-count
-slice_bounds-words-count c = omega (arith, within c.before.before, c.requires.0.room)
+slice_bounds-words-count c = omega (arith, within c.before.before, c.requires.summed.room)
 
 pub slice_bounds-words-start : goal.slice_bounds-words-start
-slice_bounds-words-start c = omega (arith, within c.before.before, c.requires.0.room)
+slice_bounds-words-start c = omega (arith, within c.before.before, c.requires.summed.room)
 
 pub slice_bounds-words-end : goal.slice_bounds-words-end
 slice_bounds-words-end c = le_refl _
 
 pub offset_bounds-words-col : goal.offset_bounds-words-col
-offset_bounds-words-col c = omega (arith, within c.before.before.before, c.requires.0.room)
+offset_bounds-words-col c = omega (arith, within c.before.before.before, c.requires.summed.room)
 
 pub bounds-words-col : goal.bounds-words-col
-bounds-words-col c = part_place c.args.sums.now _ c.args.col (omega (arith, within c.before.before.before.before, c.requires.0.room))
+bounds-words-col c = part_place c.args.sums.now _ c.args.col (omega (arith, within c.before.before.before.before, c.requires.summed.room))
 
 pub returns : goal.returns
 returns c =
     let a = c.args in
     part_read a.sums.now _ a.col
-    ∙ corner_read (table_map a.grid a.sums.now) a.sums.now a.sums.now a.row a.col c.requires.0.words c.requires.1.row
-    c.requires.1.col
+    ∙ corner_read (table_map a.grid a.sums.now) a.sums.now a.sums.now a.row a.col c.requires.summed.words c.requires.at_corner.row
+    c.requires.at_corner.col

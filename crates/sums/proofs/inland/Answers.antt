@@ -11,23 +11,21 @@ use Rattle.sums.proofs.inland.Tie as tie
 use Rattle.sums.proofs.inland.Goals as goal
 
 abbrev After-strip-2 : Type 0
-After-strip-2 = lts.After-strip2 tie.the-claims reads.Pre reads.Post
+After-strip-2 = lts.After-strip2 tie.the-claims reads.Pre reads.Post tie.handed_clauses
 
 apart : (c : After-strip-2) → let a = c.args in
     c.strip.result ≡ c.strip-2.result + rectangle_population (table_map a.grid a.sums.now) a.rows a.west a.end
 apart c =
     let a = c.args in
-    omega (arith, rectangle_cut (table_map a.grid a.sums.now) a.rows a.west a.end c.requires.1.west, c.strip.ensures, c.strip-2.ensures)
+    omega (arith, rectangle_cut (table_map a.grid a.sums.now) a.rows a.west a.end c.requires.inland_on_table.west, c.strip.ensures, c.strip-2.ensures)
 
 pub strip-requires : goal.strip-requires
 strip-requires c =
-    let p = c.requires in
-    (p.0, record { ordered = p.1.ordered; south = p.1.south; col = p.1.end })
+    let p = c.requires in record { summed = p.summed; strip_on_table = record { ordered = p.inland_on_table.ordered; south = p.inland_on_table.south; col = p.inland_on_table.end } }
 
 pub strip-requires-2 : goal.strip-requires-2
 strip-requires-2 c =
-    let p = c.requires in
-    (p.0, record { ordered = p.1.ordered; south = p.1.south; col = omega (arith, p.1.west, p.1.end) })
+    let p = c.requires in record { summed = p.summed; strip_on_table = record { ordered = p.inland_on_table.ordered; south = p.inland_on_table.south; col = omega (arith, p.inland_on_table.west, p.inland_on_table.end) } }
 
 pub overflow_sub-result : goal.overflow_sub-result
 overflow_sub-result c = omega (arith, apart c.before)

@@ -11,21 +11,20 @@ use Rattle.sums.proofs.strip.Tie as tie
 use Rattle.sums.proofs.strip.Goals as goal
 
 abbrev After-corner-above : Type 0
-After-corner-above = lts.After-corner2 tie.the-claims reads.Pre reads.Post
+After-corner-above = lts.After-corner2 tie.the-claims reads.Pre reads.Post tie.handed_clauses
 
 apart : (c : After-corner-above) → let a = c.args in
     c.corner-below.result ≡ c.corner-above.result + rectangle_population (table_map a.grid a.sums.now) a.rows 0 a.col
 apart c =
     let a = c.args in
-    omega (arith, corner_rows (table_map a.grid a.sums.now) a.rows a.col c.requires.1.ordered, c.corner-below.ensures, c.corner-above.ensures)
+    omega (arith, corner_rows (table_map a.grid a.sums.now) a.rows a.col c.requires.strip_on_table.ordered, c.corner-below.ensures, c.corner-above.ensures)
 
 pub corner-below-requires : goal.corner-below-requires
-corner-below-requires c = let p = c.requires in (p.0, record { row = p.1.south; col = p.1.col })
+corner-below-requires c = let p = c.requires in record { summed = p.summed; at_corner = record { row = p.strip_on_table.south; col = p.strip_on_table.col } }
 
 pub corner-above-requires : goal.corner-above-requires
 corner-above-requires c =
-    let p = c.requires in
-    (p.0, record { row = omega (arith, p.1.ordered, p.1.south); col = p.1.col })
+    let p = c.requires in record { summed = p.summed; at_corner = record { row = omega (arith, p.strip_on_table.ordered, p.strip_on_table.south); col = p.strip_on_table.col } }
 
 pub overflow_sub-result : goal.overflow_sub-result
 overflow_sub-result c = omega (arith, apart c.before)
