@@ -1,0 +1,69 @@
+-- `reach::outward::reach_by_halves`. Invariant: the offset before low is within the angle and the one at high is not, if they were tested.
+use Prim.Native.Nat.{ℕ, ◌+◌, ◌-◌, ◌/◌, ◌≤◌, ◌<◌}
+use mathlib.Core.Path.{◌≡◌, sym, ap, ◌∙◌}
+use mathlib.Core.Bool.{true, false}
+use native.Mathlib.Nat.{add-sub_cancel}
+use native.Mathlib.Omega.{arith}
+use lib.ListN.{length}
+use Rattle.grid.specs.Grid.{closing}
+use Rattle.reach.specs.State.{passes}
+use Rattle.reach.proofs.Reaches.{sheet_wide}
+use Rattle.reach.proofs.Edges.{place_of, place_fits_lem, edge_reach}
+use borrow.Author.Rules.{rules}
+use Rattle.reach.proofs.outward.reach_by_halves.Lts as lts
+use Rattle.reach.proofs.outward.reach_by_halves.Reads as reads
+use Rattle.reach.proofs.outward.reach_by_halves.Tie as tie
+use Rattle.reach.proofs.outward.reach_by_halves.Goals as goal
+
+abbrev At-loop-low : Type 0
+At-loop-low = lts.At-loop tie.the-claims reads.Pre reads.Post goal.the-invariant-loop-low goal.the-decreases-loop-low
+
+abbrev In-loop-low : Type 0
+In-loop-low = lts.In-loop tie.the-claims reads.Pre reads.Post goal.the-invariant-loop-low goal.the-decreases-loop-low
+
+-- where a turn stands: what the search began with, the row's first place, and the middle, whose place is in the sheet
+module _ (at : At-loop-low) where
+  abbrev middle : ℕ
+  middle = at.loop-low.low + (at.loop-low.high - at.loop-low.low) / 2
+
+fits : (c : In-loop-low) → c.sheet_index-first.result + middle c.before < length c.args.angles.now
+unfolding closing
+fits c = let l = c.loop-low in place_fits_lem c.requires c.sheet_index-first.ensures (middle c.before) (omega arith)
+
+pub sheet_index-first-requires : goal.sheet_index-first-requires
+sheet_index-first-requires c = place_of c.requires 0 (omega arith)
+
+pub loop-low-init : goal.loop-low-init
+loop-low-init c = (search rules, search rules, (λ h. absurd (omega arith)), (λ h. absurd (omega arith)))
+
+pub overflow_add-first : goal.overflow_add-first
+overflow_add-first c = omega (arith, fits c.before, c.well_formed.1.0)
+
+pub offset_bounds-angles-first : goal.offset_bounds-angles-first
+offset_bounds-angles-first c = let h = fits c.before in search rules
+
+pub bounds-angles-first : goal.bounds-angles-first
+bounds-angles-first c = let h = fits c.before.before in search rules
+
+pub loop-low-preserved-then-within : goal.loop-low-preserved-then-within
+loop-low-preserved-then-within c =
+    let l = c.loop-low in
+    (search rules, search rules, λ h. rw add-sub_cancel (sym c.within.ensures ∙ c.if-within.true), l.invariant.3)
+
+pub loop-low-preserved : goal.loop-low-preserved
+loop-low-preserved c =
+    let l = c.loop-low in
+    (search rules, search rules, l.invariant.2, λ h. sym c.within.ensures ∙ c.if-within.false)
+
+pub overflow_cast-result : goal.overflow_cast-result
+unfolding closing
+overflow_cast-result c = let l = c.loop-low in omega (arith, sheet_wide c.requires.sheet)
+
+pub returns : goal.returns
+unfolding closing
+returns c =
+    let l = c.loop-low in
+    let met : l.low ≡ l.high = omega arith in
+    let test = passes c.args.angles.now c.sheet_index-first.result c.args.limit in
+    edge_reach c.requires c.sheet_index-first.ensures c.args.limit l.low
+    (record { from = omega arith; to = omega arith; passed = l.invariant.2; failed = λ h. ap test met ∙ l.invariant.3 (omega arith) })

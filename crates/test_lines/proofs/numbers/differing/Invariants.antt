@@ -1,0 +1,16 @@
+-- Invariant: so many of the first k words differ.
+use Prim.Native.Nat.{◌-◌, ◌≤◌}
+use mathlib.Core.Bool.{not}
+use mathlib.Core.Path.{◌≡◌}
+use native.Mathlib.Omega.{arith}
+use lib.Dec.{eqb}
+use borrow.Author.Rules.{rules}
+use Rattle.test_lines.specs.Numbers.{differing}
+use Rattle.test_lines.proofs.Words.{at_most_one, differing_none, differing_more}
+use Rattle.test_lines.proofs.numbers.differing.Given as goal
+
+abbrev pub invariant-loop-k : goal.invariant-loop-k
+invariant-loop-k l = (l.k ≤ l.n) × (l.count ≤ l.k) × (l.count ≡ differing l.a l.i l.b l.j l.k)
+
+abbrev pub decreases-loop-k : goal.decreases-loop-k
+decreases-loop-k l = l.n - l.k
