@@ -1,0 +1,8 @@
+-- Both ends are the same 512 blank entries.
+use borrow.Author.Rules.{rules}
+use Rattle.ledger.specs.State.{fresh_ledger}
+use Rattle.ledger.proofs.fresh.Goals as goal
+
+pub returns : goal.returns
+unfolding fresh_ledger
+returns c = rw c.at.ensures

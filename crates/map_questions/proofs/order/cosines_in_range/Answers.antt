@@ -1,0 +1,53 @@
+-- Invariant: the cosines before i are in range.
+use mathlib.Core.Path.{◌≡◌, sym, ◌∙◌}
+use mathlib.Core.Bool.{Bool, true, ◌&&◌}
+use mathlib.Core.List.{List}
+use Prim.Native.Nat.{ℕ, ◌-◌, ◌≤◌}
+use native.Mathlib.Omega.{arith}
+use lib.ListN.{get_or}
+use lib.Ieee.{Float, nan, lt, le}
+use borrow.Author.Rules.{rules}
+use Rattle.floats.specs.Binary.{whole}
+use Rattle.lists.specs.Counted.{all_below}
+use Rattle.lists.proofs.All.{all_none, all_more, all_fails}
+use Rattle.grid.specs.Map.{cosine_at}
+use Rattle.grid.specs.Questions.{every_row, cosine_in_range, cosines_in_range}
+use Rattle.map_questions.proofs.order.cosines_in_range.Invariants.{ranged}
+use Rattle.map_questions.proofs.order.cosines_in_range.Lts as lts
+use Rattle.map_questions.proofs.order.cosines_in_range.Reads as reads
+use Rattle.map_questions.proofs.order.cosines_in_range.Tie as tie
+use Rattle.map_questions.proofs.order.cosines_in_range.Goals as goal
+
+abbrev Start : Type 0
+Start = lts.Start tie.the-claims reads.Pre reads.Post goal.the-invariant-loop-i goal.the-decreases-loop-i
+
+abbrev tested : Start → ℕ → Bool
+tested s = ranged s.args.cosines.now
+
+pub loop-i-init : goal.loop-i-init
+loop-i-init c = (omega arith, all_none _)
+
+pub bounds-cosines-i : goal.bounds-cosines-i
+bounds-cosines-i c = omega arith
+
+pub overflow_add-i : goal.overflow_add-i
+overflow_add-i c = omega arith
+
+pub loop-i-smaller : goal.loop-i-smaller
+loop-i-smaller c = omega arith
+
+pub loop-i-preserved : goal.loop-i-preserved
+loop-i-preserved c =
+    (omega arith, all_more c.loop-i.i (tested c.before.before.before.before.before.before.before) c.loop-i.invariant.1 (sym c.cosine_in_range.ensures ∙ c.if-cosine_in_range.true))
+
+pub returns-else-cosine_in_range : goal.returns-else-cosine_in_range
+unfolding every_row cosine_in_range cosines_in_range cosine_at
+returns-else-cosine_in_range c =
+    sym (all_fails c.args.grid.height (tested c.before.before.before.before.before.before.before) c.loop-i.i (omega (arith, c.requires))
+    (sym c.cosine_in_range.ensures ∙ c.if-cosine_in_range.false))
+
+pub returns : goal.returns
+unfolding every_row cosine_in_range cosines_in_range cosine_at
+returns c =
+    let e : c.loop-i.i ≡ c.args.grid.height = omega (arith, c.requires) in
+    sym (rw e at c.loop-i.invariant.1)
