@@ -9,4 +9,4 @@ use Rattle.ledger.specs.Ledger.{capacity}
 use Rattle.ledger.specs.contracts.Ledger as T
 
 pub places_whole : (l : Ledger) (vs : List Val) → Is T.the_row l vs → length l.places ≡ capacity
-places_whole l vs is = simp length-map at is.1.1.1.0.1.0.1
+places_whole l vs is = is.1.1.1.0.1.0.1

@@ -18,9 +18,6 @@ use Rattle.circle_rules.proofs.circle_asked.Reads as reads
 use Rattle.circle_rules.proofs.circle_asked.Tie as tie
 use Rattle.circle_rules.proofs.circle_asked.Goals as goal
 
-abbrev In-Within-2 : Type 0
-In-Within-2 = lts.After-radius tie.the-claims reads.Pre reads.Post
-
 abbrev Else-refusal-ne0 : Type 0
 Else-refusal-ne0 = lts.Else1 tie.the-claims reads.Pre reads.Post
 
@@ -32,9 +29,6 @@ map-yes e = sym e.map_refusal-refusal.ensures ∙ e.if-refusal-ne0.false
 
 fits : (e : Else-not-sums_fit) → let a = e.args in sums_fit a.grid a.sums.now ≡ true
 fits e = said_yes e.sums_fit.ensures e.if-not-sums_fit.false
-
-in_range : (r : In-Within-2) → let a = r.args in radius_in_range a.grid a.km ≡ true
-in_range r = within_range _ _ _ (sym r.new.ensures ∙ r.in-Within.is)
 
 pub returns-then-refusal-ne0 : goal.returns-then-refusal-ne0
 unfolding circle_questions
@@ -50,21 +44,21 @@ pub returns-then-not-on_grid : goal.returns-then-not-on_grid
 unfolding circle_questions
 returns-then-not-on_grid c =
     refusal_left 8 _ _
-    (after_map _ _ (map-yes c.before.before.before.before.before.before.before.before.before)
-    (asked_yes 7 _ (fits c.before.before.before.before.before.before.before) (asked_yes 8 _ (in_range c.before.before.before.before) (asked_no _ (said_no c.on_grid.ensures c.if-not-on_grid.true)))))
+    (after_map _ _ (map-yes c.before.before.before.before.before.before.before)
+    (asked_yes 7 _ (fits c.before.before.before.before.before) (asked_yes 8 _ (within_range _ _ _ (sym c.new.ensures ∙ c.in-Within.is)) (asked_no _ (said_no c.on_grid.ensures c.if-not-on_grid.true)))))
     (λ z. omega (arith, z))
 
 pub returns-in-Beyond : goal.returns-in-Beyond
 unfolding circle_questions
 returns-in-Beyond c =
     refusal_left 8 _ _
-    (after_map _ _ (map-yes c.before.before.before.before.before.before) (asked_yes 7 _ (fits c.before.before.before.before) (asked_no _ (beyond_range _ _ (sym c.new.ensures ∙ c.in-Beyond.is)))))
+    (after_map _ _ (map-yes c.before.before.before.before.before) (asked_yes 7 _ (fits c.before.before.before) (asked_no _ (beyond_range _ _ (sym c.new.ensures ∙ c.in-Beyond.is)))))
     (λ z. omega (arith, z))
 
 pub returns-else-not-on_grid : goal.returns-else-not-on_grid
 unfolding circle_questions
 returns-else-not-on_grid c =
     radius_left _ _ _
-    (after_map _ _ (map-yes c.before.before.before.before.before.before.before.before.before)
-    (asked_yes 7 _ (fits c.before.before.before.before.before.before.before) (asked_yes 8 _ (in_range c.before.before.before.before) (asked_yes 8 _ (said_yes c.on_grid.ensures c.if-not-on_grid.false) asked_none))))
+    (after_map _ _ (map-yes c.before.before.before.before.before.before.before)
+    (asked_yes 7 _ (fits c.before.before.before.before.before) (asked_yes 8 _ (within_range _ _ _ (sym c.new.ensures ∙ c.in-Within.is)) (asked_yes 8 _ (said_yes c.on_grid.ensures c.if-not-on_grid.false) asked_none))))
     (radius_within _ _ _ (sym c.new.ensures ∙ c.in-Within.is)).1

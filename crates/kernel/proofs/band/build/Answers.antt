@@ -5,16 +5,7 @@ use Rattle.grid.specs.Map.{sheet_of}
 use Rattle.reach.proofs.Reaches.{sheet_high, sheet_beyond}
 use Rattle.kernel.proofs.Built.{zero_test, built_empty, built_outline, built_walked}
 use borrow.Author.Rules.{rules}
-use Rattle.kernel.proofs.band.build.Lts as lts
-use Rattle.kernel.proofs.band.build.Reads as reads
-use Rattle.kernel.proofs.band.build.Tie as tie
 use Rattle.kernel.proofs.band.build.Goals as goal
-
-abbrev After-walk_south-end : Type 0
-After-walk_south-end = lts.After-walk_south tie.the-claims reads.Pre reads.Post tie.handed_clauses
-
--- once both walks are made
-module _ (w : After-walk_south-end) where
 
 pub returns-then-km : goal.returns-then-km
 returns-then-km c =
