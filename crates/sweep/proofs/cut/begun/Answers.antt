@@ -1,0 +1,6 @@
+-- `sweep::cut::begun`: one level, and nothing counted.
+use borrow.Author.Rules.{rules}
+use Rattle.sweep.proofs.cut.begun.Goals as goal
+
+pub returns : goal.returns
+returns c = rw (c.of-tally.ensures, c.of-stats.ensures)
