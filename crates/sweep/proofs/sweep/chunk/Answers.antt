@@ -1,12 +1,9 @@
--- `sweep::sweep::chunk`. Invariant: the work is the definition's over the blocks passed, and their children are written; the exact
--- kernel is that of its row, and each wide one serves its shape.
-use lib.ListN.{length}
-use Prim.Native.Nat.{ℕ, ◌-◌, ◌<◌}
+-- `sweep::sweep::chunk`: a turn seen from its block, the wide kernels, the exact one, and what the turn's end needs of them.
 use mathlib.Core.Path.{◌≡◌, sym, ap, subst, ◌∙◌}
 use mathlib.Core.Bool.{true, cond}
 use mathlib.Core.List.{List, [], ◌∷◌, ◌++◌}
-use mathlib.Core.Logic.{inl, inr, ⊎_elim}
-use native.Mathlib.Omega.{arith}
+use mathlib.Core.Logic.{◌⊎◌, inl, inr}
+use Prim.Native.Nat.{ℕ, ◌<◌}
 use lib.Ieee.{Float, eq}
 use Rattle.grid.specs.declared.Cell.{Cell}
 use Rattle.grid.specs.Map.{Map}
@@ -20,7 +17,7 @@ use Rattle.kernel.proofs.Placing.{rows_of, kernel_own, kernel_kept}
 use Rattle.circle_cells.proofs.Populations.{same_population}
 use Rattle.lists.proofs.Bools.{of_true}
 use Rattle.blocks.specs.declared.Block.{Block}
-use Rattle.blocks.specs.Block.{probe, Rectangle}
+use Rattle.blocks.specs.Block.{probe, Rectangle, same_shape}
 use Rattle.bounds.specs.Bound.{wide_km}
 use Rattle.bounds.specs.State.{wide_kernel}
 use Rattle.bounds.specs.Requires.{CanWiden}
@@ -33,172 +30,73 @@ use Rattle.chunk_work.specs.declared.ChunkWork.{ChunkWork}
 use Rattle.chunk_work.specs.Requires.{CanCount}
 use Rattle.sweep.proofs.Serving.{wide_at, wide_radius_lem, serves_none, serves_still, wide_now}
 use Rattle.levels.proofs.OneBlock.{ready_sheet, ready_cosines, probe_row_lem, probe_placed, probe_people, not_asked, examined_is}
-use Rattle.sweep.proofs.Sweeps.{Sweeping, middle_on, start_held, start_own, sweep_start, next_rectangle, sweep_counts, sweep_room, sweep_next, sweep_done}
-use borrow.Author.Tests.{not-false, eqb-true}
-use borrow.Author.Rules.{rules}
-use Rattle.sweep.proofs.sweep.chunk.Lts as lts
-use Rattle.sweep.proofs.sweep.chunk.Reads as reads
-use Rattle.sweep.proofs.sweep.chunk.Tie as tie
+use Rattle.sweep.proofs.Sweeps.{middle_on, start_held, start_own, sweep_start, next_rectangle, sweep_counts, sweep_room, sweep_next, sweep_done}
+use borrow.Author.Tests.{eqb-true}
 use Rattle.sweep.proofs.sweep.chunk.Goals as goal
+use Rattle.sweep.proofs.sweep.chunk.Goals.{After-odd_columns, then-odd_columns, else-odd_columns, then-not-same_shape, else-not-same_shape, then-not-same_shape-2, else-not-same_shape-2, then-asks, else-asks, then-not-same_row, else-not-same_row}
 
-abbrev After-examined-work : Type 0
-After-examined-work = lts.After-examined tie.the-claims reads.Pre reads.Post goal.the-invariant-loop-i goal.the-decreases-loop-i tie.handed_clauses
+-- ---- a turn, seen from its block
 
-abbrev After-odd_columns : Type 0
-After-odd_columns = lts.After-odd_columns tie.the-claims reads.Pre reads.Post goal.the-invariant-loop-i goal.the-decreases-loop-i tie.handed_clauses
+module _ (h : After-odd_columns) where
+  abbrev the_map : Map
+  the_map = summed_map h.args.grid h.args.angles.now h.args.cosines.now h.args.sums.now
 
-abbrev At-loop-i : Type 0
-At-loop-i = lts.At-loop tie.the-claims reads.Pre reads.Post goal.the-invariant-loop-i goal.the-decreases-loop-i tie.handed_clauses
+  abbrev block_of : Block
+  block_of = h.from_word-block.result
 
-abbrev Joined-odd_columns : Type 0
-Joined-odd_columns = lts.Joined1 tie.the-claims reads.Pre reads.Post goal.the-invariant-loop-i goal.the-decreases-loop-i tie.handed_clauses
+  rectangle : Rectangle h.args.grid block_of
+  rectangle =
+      let l = h.loop-i in
+      let q = h.requires in
+      subst (Rectangle h.args.grid) (sym h.from_word-block.ensures)
+      (next_rectangle _ _ _ _ _ _ _ _ _ _ _ q.ready q.chunk_words q.can_sweep l.following l.work l.at l.i l.invariant.0 h.loop-i-test.true)
 
-abbrev Joined-not-same_shape : Type 0
-Joined-not-same_shape = lts.Joined2 tie.the-claims reads.Pre reads.Post goal.the-invariant-loop-i goal.the-decreases-loop-i tie.handed_clauses
-
-abbrev Joined-not-same_shape-2 : Type 0
-Joined-not-same_shape-2 = lts.Joined3 tie.the-claims reads.Pre reads.Post goal.the-invariant-loop-i goal.the-decreases-loop-i tie.handed_clauses
-
-abbrev Joined-asks : Type 0
-Joined-asks = lts.Joined4 tie.the-claims reads.Pre reads.Post goal.the-invariant-loop-i goal.the-decreases-loop-i tie.handed_clauses
-
-abbrev Joined-not-same_row : Type 0
-Joined-not-same_row = lts.Joined5 tie.the-claims reads.Pre reads.Post goal.the-invariant-loop-i goal.the-decreases-loop-i tie.handed_clauses
-
-abbrev the_map : At-loop-i → Map
-the_map c = let a = c.args in summed_map a.grid a.angles.now a.cosines.now a.sums.now
-
-abbrev block_of : After-odd_columns → Block
-block_of c = c.from_word-block.result
-
-rectangle : (c : After-odd_columns) → Rectangle c.args.grid (block_of c)
-rectangle c =
-    let l = c.loop-i in
-    subst (Rectangle c.args.grid) (sym c.from_word-block.ensures)
-    (next_rectangle _ _ _ _ _ _ _ _ _ _ _ c.requires.ready c.requires.chunk_words c.requires.can_sweep l.following l.work l.at l.i l.invariant.0 c.loop-i-test.true)
-
--- ---- the wide kernels, either of which is the block's own once it is built or kept
-
-abbrev WideNow : After-odd_columns → Block → Kernel → Type 0
-WideNow b shape k =
-    let a = (start_of (head_of b)).args in
-    (k ≡ wide_kernel (the_map (head_of b)).globe a.km (block_of b)) × Serves a.grid a.angles.now a.cosines.now a.km shape k
-
-one-now : (c : Joined-not-same_shape) → WideNow c.before.before.before c.if-not-same_shape.one-shape c.if-not-same_shape.one
-one-now c =
-    wide_now _ _ _ _ (block_of c.before.before.before) (rectangle c.before.before.before) _ c.if-not-same_shape.one-shape _ c.if-not-same_shape.one c.loop-i.invariant.2
-    (⊎_elim (λ w. inl (w.3, w.2 ∙ w.1.ensures)) (λ w. inr (sym c.same_shape.ensures ∙ not-false _ w.0.left, w.2, w.1)) c.if-not-same_shape.branch)
-
-two-now : (c : Joined-not-same_shape-2) → WideNow c.before.before.before c.if-not-same_shape-2.two-shape c.if-not-same_shape-2.two
-two-now c =
-    wide_now _ _ _ _ (block_of c.before.before.before) (rectangle c.before.before.before) _ c.if-not-same_shape-2.two-shape _ c.if-not-same_shape-2.two c.loop-i.invariant.3
-    (⊎_elim (λ w. inl (w.3, w.2 ∙ w.1.ensures)) (λ w. inr (sym c.same_shape-else-odd_columns.ensures ∙ not-false _ w.0.left, w.2, w.1)) c.if-not-same_shape-2.branch)
-
-module _ (b : After-odd_columns) where
-  can_widen : CanWiden b.args.grid b.args.angles.now b.args.cosines.now (block_of b)
-  can_widen = let t = b.requires.ready in record { sheet = ready_sheet _ _ _ _ t; complete = ready_cosines _ _ _ _ t; rectangle = rectangle b }
+  can_widen : CanWiden h.args.grid h.args.angles.now h.args.cosines.now block_of
+  can_widen = let t = h.requires.ready in record { sheet = ready_sheet _ _ _ _ t; complete = ready_cosines _ _ _ _ t; rectangle = rectangle }
 
   -- a kernel of the probe's row: it can be summed around the probe, to the people of the probe's circle
-  module _ (km : Float) (k : Kernel) (is : KernelAt b.args.grid b.args.angles.now (probe (block_of b)).row km k) where
-    can_sum : CanSum b.args.grid b.args.sums.now (rows_of k) b.probe-p.result.col
-    can_sum = probe_placed _ _ _ _ b.requires.ready (block_of b) (rectangle b) b.probe-p.result b.probe-p.ensures km k is
+  module _ (km : Float) (k : Kernel) (is : KernelAt h.args.grid h.args.angles.now (probe block_of).row km k) where
+    can_sum : CanSum h.args.grid h.args.sums.now (rows_of k) h.probe-p.result.col
+    can_sum = probe_placed _ _ _ _ h.requires.ready block_of rectangle h.probe-p.result h.probe-p.ensures km k is
 
-    people : kernel_population (table_map b.args.grid b.args.sums.now) (rows_of k) b.probe-p.result.col
-        ≡ population (the_map (b.before.before.before.before.before b)) km (probe (block_of b))
-    people = probe_people _ _ _ _ b.requires.ready (block_of b) (rectangle b) b.probe-p.result b.probe-p.ensures km k is
+    people : kernel_population (table_map h.args.grid h.args.sums.now) (rows_of k) h.probe-p.result.col ≡ population the_map km (probe block_of)
+    people = probe_people _ _ _ _ h.requires.ready block_of rectangle h.probe-p.result h.probe-p.ensures km k is
 
--- ---- a block's wide radius and bound, and what the two wide kernels serve after it
-
-module _ (c : Joined-odd_columns) where
-  abbrev h : After-odd_columns
-  h = c.before
-
-  abbrev Wide : Float → ℕ → Type 0
-  Wide wide bound =
-      let there = wide_km (the_map (head_of h)).globe (st h).args.km (block_of h) in
-      (wide ≡ there) × (bound ≡ population (the_map (head_of h)) there (probe (block_of h)))
+  -- ---- the wide kernels, either of which is the block's own once it is built or kept
 
   abbrev ServesNow : Block → Kernel → Type 0
-  ServesNow shape k = let a = (st h).args in Serves a.grid a.angles.now a.cosines.now a.km shape k
+  ServesNow shape k = Serves h.args.grid h.args.angles.now h.args.cosines.now h.args.km shape k
 
-  widened : Wide c.if1.wide c.if1.bound × ServesNow c.if1.one-shape c.if1.one × ServesNow c.if1.two-shape c.if1.two
-  widened =
-      let inv = (head_of h).loop.invariant in
-      ⊎_elim
-      (λ w.
-      let o = one-now (record { before = record { before = record { before = h; if1 = w.0 }; same_shape = w.1 }; if2 = w.2 }) in
-      let k = w.2.one in (
-        (w.12 ∙ wide_radius_lem _ _ (block_of h) k o.0, w.13 ∙ w.7.ensures ∙ people h _ k (wide_at _ _ (block_of h) k o.0)),
-        serves_still _ _ _ _ _ c.if1.one-shape _ c.if1.one w.9 w.8 o.1,
-        serves_still _ _ _ _ _ c.if1.two-shape _ c.if1.two w.11 w.10 inv.3,
-      ))
-      (λ w.
-      let t = two-now (record { before = record { before = record { before = h; if1 = w.0 }; same-shape2 = w.1 }; if3 = w.2 }) in
-      let k = w.2.two in (
-        (w.12 ∙ wide_radius_lem _ _ (block_of h) k t.0, w.13 ∙ w.7.ensures ∙ people h _ k (wide_at _ _ (block_of h) k t.0)),
-        serves_still _ _ _ _ _ c.if1.one-shape _ c.if1.one w.9 w.8 inv.2,
-        serves_still _ _ _ _ _ c.if1.two-shape _ c.if1.two w.11 w.10 t.1,
-      ))
-      c.if1.branch
+  abbrev WideNow : Block → Kernel → Type 0
+  WideNow shape k = (k ≡ wide_kernel the_map.globe h.args.km block_of) × ServesNow shape k
 
-  wide_is : c.if1.wide ≡ wide_km (the_map (head_of h)).globe (st h).args.km (block_of h)
-  wide_is = widened.0.0
+  -- built anew, or kept from the block before
+  abbrev Own : Block → Kernel → Block → Kernel → Type 0
+  Own shape₀ k₀ shape k =
+      ((shape ≡ block_of) × (k ≡ wide_kernel the_map.globe h.args.km block_of))
+      ⊎ ((same_shape shape₀ block_of ≡ true) × (shape ≡ shape₀) × (k ≡ k₀))
 
-  bound_is : c.if1.bound ≡ population (the_map (head_of h)) c.if1.wide (probe (block_of h))
-  bound_is = widened.0.1 ∙ ap (λ (x : Float). population (the_map (head_of h)) x (probe (block_of h))) (sym wide_is)
+  one_now : (shape : Block) (k : Kernel) → Own h.loop-i.one_shape h.loop-i.one shape k → WideNow shape k
+  one_now shape k own = wide_now _ _ _ _ block_of rectangle _ shape _ k h.loop-i.invariant.2 own
 
--- ---- the exact kernel, and a survivor's population
+  two_now : (shape : Block) (k : Kernel) → Own h.loop-i.two_shape h.loop-i.two shape k → WideNow shape k
+  two_now shape k own = wide_now _ _ _ _ block_of rectangle _ shape _ k h.loop-i.invariant.3 own
 
-abbrev ExactAt : After-odd_columns → Kernel → Type 0
-ExactAt h k = let a = (start_of (head_of h)).args in KernelAt a.grid a.angles.now (probe (block_of h)).row a.km k
+  abbrev Wide : Float → ℕ → Type 0
+  Wide wide bound = let there = wide_km the_map.globe h.args.km block_of in (wide ≡ there) × (bound ≡ population the_map there (probe block_of))
 
-exact-is : (c : Joined-not-same_row) → ExactAt c.before.before.before.before.before.before.before.before c.if-not-same_row.exact
-exact-is c =
-    let p = c.probe-p in
-    ⊎_elim {C = ExactAt c.before.before.before.before.before.before.before.before c.if-not-same_row.exact} (λ w. kernel_kept _ _ p.result.row _ c.if-not-same_row.exact (w.2 ∙ w.1.ensures) (probe (block_of c.before.before.before.before.before.before.before.before)).row (ap (λ (x : Cell). x.row.0) p.ensures))
-    (λ w. w.1 ∙ kernel_kept _ _ c.loop-i.exact.row _ c.loop-i.exact c.loop-i.invariant.1 (probe (block_of c.before.before.before.before.before.before.before.before)).row
-    (eqb-true _ _ (sym c.same_row.ensures ∙ not-false _ w.0.left) ∙ ap (λ (x : Cell). x.row.0) p.ensures))
-    c.if-not-same_row.branch
+  -- ---- the exact kernel
 
-module _ (c : Joined-asks) where
-  exact_after : KernelAt c.args.grid c.args.angles.now c.if-asks.exact.row c.args.km c.if-asks.exact
-  exact_after =
-      ⊎_elim
-      (λ w. kernel_own _ _ (probe (block_of c.before.before.before.before)).row _ c.if-asks.exact
-      (w.9 ∙ exact-is (record {
-        before = record { before = record { before = record { before = c.before; if4 = w.0 }; same-row-arg = w.1 }; same_row = w.2 };
-        if5 = w.3;
-      })))
-      (λ w. subst (λ (x : Kernel). KernelAt c.args.grid c.args.angles.now x.row c.args.km x) (sym w.1) (c.before.before.before.before.before.before.before.before.before c.before.before.before.before).loop.invariant.1)
-      c.if-asks.branch
+  abbrev ExactAt : Kernel → Type 0
+  ExactAt k = KernelAt h.args.grid h.args.angles.now (probe block_of).row h.args.km k
 
-  population_is : c.survives-survives.result ≡ true → c.if-asks.population ≡ population (the_map (c.before.before.before.before.before.before.before.before.before c.before.before.before.before)) c.args.km (probe (block_of c.before.before.before.before))
-  population_is s =
-      ⊎_elim
-      (λ w. w.10 ∙ w.8.ensures ∙ people c.before.before.before.before _ w.3.exact
-      (exact-is (record {
-        before = record { before = record { before = record { before = c.before; if4 = w.0 }; same-row-arg = w.1 }; same_row = w.2 };
-        if5 = w.3;
-      })))
-      (λ w. w.2 ∙ bound_is c.before.before.before
-      ∙ same_population (the_map (c.before.before.before.before.before.before.before.before.before c.before.before.before.before)) c.if-odd_columns.wide c.args.km
-      (of_true _ (not_asked _ (eq c.if-odd_columns.wide c.args.km) _ c.asks.ensures w.0.left s)) (probe (block_of c.before.before.before.before)))
-      c.if-asks.branch
+  on_row : h.probe-p.result.row.0 ≡ (probe block_of).row.0
+  on_row = ap (λ (x : Cell). x.row.0) h.probe-p.ensures
 
--- the block's work is the definition's
-seen : (c : After-examined-work) → let s = c.survives-survives.result in
-    (bs : List Block) → work_of c.examined-work.result (cond s (bs ++ block_of c.before.before.before.before.before ∷ []) bs)
-    ≡ examine (the_map c.before.before.before.before.before.before.before.before.before.before) c.args.km (work_of c.loop-i.work bs) (block_of c.before.before.before.before.before)
-seen c bs =
-    let s = c.survives-survives in
-    ap (λ (x : ChunkWork). work_of x (cond s.result (bs ++ block_of c.before.before.before.before.before ∷ []) bs)) c.examined-work.ensures
-    ∙ examined_is (the_map c.before.before.before.before.before.before.before.before.before.before) c.args.km c.loop-i.work (block_of c.before.before.before.before.before) _ (wide_is c.before.before.before.before) _ (bound_is c.before.before.before.before)
-    s.result s.ensures c.if-asks.population (population_is c.before) bs
+-- ---- the goals
 
--- ---- the needs
-
-build-requires : tie.Need-build-requires invariant-loop decreases-loop
-build-requires c κs = middle_on _ _ (ready_sheet _ _ _ _ (begin c).requires.0)
+pub build-exact-requires : goal.build-exact-requires
+build-exact-requires c = middle_on _ _ (ready_sheet _ _ _ _ c.requires.ready)
 
 pub loop-i-init : goal.loop-i-init
 loop-i-init c =
@@ -209,39 +107,43 @@ loop-i-init c =
       serves_none _ _ _ _ shape.result shape.ensures _,
     )
 
-pub offset_bounds-current-i : goal.offset_bounds-current-i
-offset_bounds-current-i c =
-    let h : c.loop-i.i < length c.args.current.now = omega (arith, c.requires.chunk_words.words, c.loop-i-test.true) in
-    search rules
-
-pub bounds-current-i : goal.bounds-current-i
-bounds-current-i c = omega (arith, c.requires.chunk_words.words, c.loop-i-test.true)
-
 pub wide_kernel-one-requires : goal.wide_kernel-one-requires
-wide_kernel-one-requires c = can_widen c.before.before.before.before
+wide_kernel-one-requires c = can_widen (goal.at.wide_kernel-one-requires c).After-odd_columns
+
+pub wide_kernel-two-requires : goal.wide_kernel-two-requires
+wide_kernel-two-requires c = can_widen (goal.at.wide_kernel-two-requires c).After-odd_columns
 
 pub circle_population-bound-requires : goal.circle_population-bound-requires
 circle_population-bound-requires c =
-    can_sum c.before.before.before.before.before.before.before.before _ c.if-not-same_shape.one (wide_at _ _ (block_of c.before.before.before.before.before.before.before.before) c.if-not-same_shape.one (one-now c.before.before.before.before.before).0)
-
-pub wide_kernel-two-requires : goal.wide_kernel-two-requires
-wide_kernel-two-requires c = can_widen c.before.before.before.before
+    let h = (goal.at.circle_population-bound-requires c).After-odd_columns in
+    let j = c.if-not-same_shape in
+    let own : Own h c.loop-i.one_shape c.loop-i.one j.one_shape j.one =
+    elim c.if-not-same_shape.branch [ then-not-same_shape v ↦ inl (v.one_shape-is, v.one-is ∙ v.wide_kernel-one.ensures) | else-not-same_shape v ↦ inr (sym c.same_shape.ensures ∙ v.if-not-same_shape.false, v.one_shape-is, v.one-is) ] in
+    can_sum h _ j.one (wide_at _ _ (block_of h) j.one (one_now h j.one_shape j.one own).0)
 
 pub circle_population-bound-requires-else-odd_columns : goal.circle_population-bound-requires-else-odd_columns
 circle_population-bound-requires-else-odd_columns c =
-    can_sum c.before.before.before.before.before.before.before.before _ c.if-not-same_shape-2.two (wide_at _ _ (block_of c.before.before.before.before.before.before.before.before) c.if-not-same_shape-2.two (two-now c.before.before.before.before.before).0)
+    let h = (goal.at.circle_population-bound-requires-else-odd_columns c).After-odd_columns in
+    let j = c.if-not-same_shape-2 in
+    let own : Own h c.loop-i.two_shape c.loop-i.two j.two_shape j.two =
+    elim c.if-not-same_shape-2.branch [ then-not-same_shape-2 v ↦ inl (v.two_shape-is, v.two-is ∙ v.wide_kernel-two.ensures) | else-not-same_shape-2 v ↦ inr (sym c.same_shape-else-odd_columns.ensures ∙ v.if-not-same_shape-2.false, v.two_shape-is, v.two-is) ] in
+    can_sum h _ j.two (wide_at _ _ (block_of h) j.two (two_now h j.two_shape j.two own).0)
 
 pub build-exact-requires-then-not-same_row : goal.build-exact-requires-then-not-same_row
 build-exact-requires-then-not-same_row c =
+    let h = (goal.at.build-exact-requires-then-not-same_row c).After-odd_columns in
     let t = c.requires.ready in
     record {
       sheet = ready_sheet _ _ _ _ t;
-      on = subst (λ (x : Cell). x.row.0 < c.args.grid.height) (sym c.probe-p.ensures) (probe_row_lem _ _ _ _ t (block_of c.before.before.before.before.before.before.before.before.before.before) (rectangle c.before.before.before.before.before.before.before.before.before.before));
+      on = subst (λ (x : Cell). x.row.0 < c.args.grid.height) (sym c.probe-p.ensures) (probe_row_lem _ _ _ _ t (block_of h) (rectangle h));
     }
 
 pub circle_population-population-requires : goal.circle_population-population-requires
 circle_population-population-requires c =
-    can_sum c.before.before.before.before.before.before.before.before.before.before.before.before.before _ c.if-not-same_row.exact (exact-is c.before.before.before.before.before)
+    let h = (goal.at.circle_population-population-requires c).After-odd_columns in
+    let exact : ExactAt h c.if-not-same_row.exact =
+    elim c.if-not-same_row.branch [ then-not-same_row v ↦ kernel_kept _ _ c.probe-p.result.row _ c.if-not-same_row.exact (v.exact-is ∙ v.build-exact-then-not-same_row.ensures) (probe (block_of h)).row (on_row h) | else-not-same_row v ↦ v.exact-is ∙ kernel_kept _ _ c.loop-i.exact.row _ c.loop-i.exact c.loop-i.invariant.1 (probe (block_of h)).row (eqb-true _ _ (sym c.same_row.ensures ∙ v.if-not-same_row.false) ∙ on_row h) ] in
+    can_sum h _ c.if-not-same_row.exact exact
 
 pub examined-work-requires : goal.examined-work-requires
 examined-work-requires c =
@@ -255,21 +157,66 @@ write_children-at-requires c =
     subst (λ (x : Block). CanSplit x l.following l.at) (sym c.from_word-block.ensures)
     (sweep_room _ _ _ _ _ _ _ _ _ _ _ c.requires.ready c.requires.chunk_words c.requires.can_sweep l.following l.work l.at l.i l.invariant.0 c.loop-i-test.true)
 
-pub overflow_add-i : goal.overflow_add-i
-overflow_add-i c = omega (arith, c.loop-i-test.true, c.fits.end.fits)
-
+-- the exact kernel stays that of its row, and the block's work is the definition's
 pub loop-i-preserved : goal.loop-i-preserved
 loop-i-preserved c =
+    let h = (goal.at.loop-i-preserved c).After-odd_columns in
     let l = c.loop-i in
-    let s = c.survives-survives.result in
+    let q = c.requires in
+    let j = c.if-odd_columns in
+    let m = the_map h in
+    let b = block_of h in
+    let s = c.survives-survives in
     let word = c.from_word-block.ensures in
-    let wide = widened c.before.before.before.before.before.before.before.before.before in
-    let wrote = c.write_children-at in (
-      sweep_next _ _ _ _ _ _ _ _ _ _ _ c.requires.ready c.requires.chunk_words c.requires.can_sweep l.following l.work l.at l.i l.invariant.0
-          c.loop-i-test.true c.examined-work.result s
-          (subst (λ (x : Block). (bs : List Block) → work_of c.examined-work.result (cond s (bs ++ x ∷ []) bs) ≡ examine (the_map c.before.before.before.before.before.before.before.before.before.before.before.before.before.before.before) c.args.km (work_of l.work bs) x) word (seen c.before.before.before.before.before)) _ wrote.result
-          (rw word at wrote.ensures),
-      exact_after c.before.before.before.before.before.before,
+    let wrote = c.write_children-at in
+    let wide : Wide h j.wide j.bound × ServesNow h j.one_shape j.one × ServesNow h j.two_shape j.two =
+    elim j.branch [
+      | then-odd_columns w ↦
+          let k = w.if-not-same_shape.one in
+          let own : Own h l.one_shape l.one w.if-not-same_shape.one_shape k =
+          elim w.if-not-same_shape.branch [ then-not-same_shape v ↦ inl (v.one_shape-is, v.one-is ∙ v.wide_kernel-one.ensures) | else-not-same_shape v ↦ inr (sym w.same_shape.ensures ∙ v.if-not-same_shape.false, v.one_shape-is, v.one-is) ] in
+          let o = one_now h w.if-not-same_shape.one_shape k own in (
+            (w.wide-is ∙ wide_radius_lem _ _ b k o.0, w.bound-is ∙ w.circle_population-bound.ensures ∙ people h _ k (wide_at _ _ b k o.0)),
+            serves_still _ _ _ _ _ j.one_shape _ j.one w.one_shape-is w.one-is o.1,
+            serves_still _ _ _ _ _ j.two_shape _ j.two w.two_shape-is w.two-is l.invariant.3,
+          )
+      | else-odd_columns w ↦
+          let k = w.if-not-same_shape-2.two in
+          let own : Own h l.two_shape l.two w.if-not-same_shape-2.two_shape k =
+          elim w.if-not-same_shape-2.branch [ then-not-same_shape-2 v ↦ inl (v.two_shape-is, v.two-is ∙ v.wide_kernel-two.ensures) | else-not-same_shape-2 v ↦ inr (sym w.same_shape-else-odd_columns.ensures ∙ v.if-not-same_shape-2.false, v.two_shape-is, v.two-is) ] in
+          let t = two_now h w.if-not-same_shape-2.two_shape k own in (
+            (w.wide-is ∙ wide_radius_lem _ _ b k t.0, w.bound-is ∙ w.circle_population-bound-else-odd_columns.ensures ∙ people h _ k (wide_at _ _ b k t.0)),
+            serves_still _ _ _ _ _ j.one_shape _ j.one w.one_shape-is w.one-is l.invariant.2,
+            serves_still _ _ _ _ _ j.two_shape _ j.two w.two_shape-is w.two-is t.1,
+          )
+    ] in
+    let bound_is : j.bound ≡ population m j.wide (probe b) = wide.0.1 ∙ ap (λ (x : Float). population m x (probe b)) (sym wide.0.0) in
+    let exact : KernelAt c.args.grid c.args.angles.now c.if-asks.exact.row c.args.km c.if-asks.exact =
+    elim c.if-asks.branch [
+      | then-asks w ↦
+          let e : ExactAt h w.if-not-same_row.exact =
+          elim w.if-not-same_row.branch [ then-not-same_row v ↦ kernel_kept _ _ c.probe-p.result.row _ w.if-not-same_row.exact (v.exact-is ∙ v.build-exact-then-not-same_row.ensures) (probe (block_of h)).row (on_row h) | else-not-same_row v ↦ v.exact-is ∙ kernel_kept _ _ c.loop-i.exact.row _ c.loop-i.exact c.loop-i.invariant.1 (probe (block_of h)).row (eqb-true _ _ (sym w.same_row.ensures ∙ v.if-not-same_row.false) ∙ on_row h) ] in
+          kernel_own _ _ (probe b).row _ c.if-asks.exact (w.exact-is ∙ e)
+      | else-asks w ↦ subst (λ (x : Kernel). KernelAt c.args.grid c.args.angles.now x.row c.args.km x) (sym w.exact-is) l.invariant.1
+    ] in
+    let people_is : s.result ≡ true → c.if-asks.population ≡ population m c.args.km (probe b) = λ yes.
+    elim c.if-asks.branch [
+      | then-asks w ↦
+          let e : ExactAt h w.if-not-same_row.exact =
+          elim w.if-not-same_row.branch [ then-not-same_row v ↦ kernel_kept _ _ c.probe-p.result.row _ w.if-not-same_row.exact (v.exact-is ∙ v.build-exact-then-not-same_row.ensures) (probe (block_of h)).row (on_row h) | else-not-same_row v ↦ v.exact-is ∙ kernel_kept _ _ c.loop-i.exact.row _ c.loop-i.exact c.loop-i.invariant.1 (probe (block_of h)).row (eqb-true _ _ (sym w.same_row.ensures ∙ v.if-not-same_row.false) ∙ on_row h) ] in
+          w.population-is ∙ w.circle_population-population.ensures ∙ people h _ w.if-not-same_row.exact e
+      | else-asks w ↦
+          w.population-is ∙ bound_is
+          ∙ same_population m j.wide c.args.km (of_true _ (not_asked _ (eq j.wide c.args.km) _ c.asks.ensures w.if-asks.false yes)) (probe b)
+    ] in
+    let seen : (bs : List Block) → work_of c.examined-work.result (cond s.result (bs ++ b ∷ []) bs) ≡ examine m c.args.km (work_of l.work bs) b = λ bs.
+    ap (λ (x : ChunkWork). work_of x (cond s.result (bs ++ b ∷ []) bs)) c.examined-work.ensures
+    ∙ examined_is m c.args.km l.work b _ wide.0.0 _ bound_is s.result s.ensures c.if-asks.population people_is bs in (
+      sweep_next _ _ _ _ _ _ _ _ _ _ _ q.ready q.chunk_words q.can_sweep l.following l.work l.at l.i l.invariant.0
+          c.loop-i-test.true c.examined-work.result s.result
+          (subst (λ (x : Block). (bs : List Block) → work_of c.examined-work.result (cond s.result (bs ++ x ∷ []) bs) ≡ examine m c.args.km (work_of l.work bs) x) word seen)
+          _ wrote.result (rw word at wrote.ensures),
+      exact,
       wide.1,
       wide.2,
     )
@@ -277,11 +224,11 @@ loop-i-preserved c =
 pub returns : goal.returns
 returns c =
     let l = c.loop-i in
-    let started = c.started-work in
+    let q = c.requires in
     let a = c.args in
     let done =
-    subst (λ (x : Held). Swept (chunk (the_map c.before.before.before) a.km x (blocks_from a.start a.end a.current.now)) a.following.now a.live l.following
+    subst (λ (x : Held). Swept (chunk (summed_map a.grid a.angles.now a.cosines.now a.sums.now) a.km x (blocks_from a.start a.end a.current.now)) a.following.now a.live l.following
     (record { held = l.work.held; tally = l.work.tally; live = l.at }))
-    (start_held _ _ _ started.result started.ensures)
-    (sweep_done _ _ _ _ _ _ _ _ _ _ _ c.requires.ready c.requires.chunk_words c.requires.can_sweep l.following l.work l.at l.i l.invariant.0 c.loop-i-test.false) in
+    (start_held _ _ _ c.started-work.result c.started-work.ensures)
+    (sweep_done _ _ _ _ _ _ _ _ _ _ _ q.ready q.chunk_words q.can_sweep l.following l.work l.at l.i l.invariant.0 c.loop-i-test.false) in
     rw c.result_of.ensures done

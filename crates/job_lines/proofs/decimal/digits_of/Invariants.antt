@@ -1,0 +1,12 @@
+-- The digits are written from the last to the first.
+use borrow.Author.Rules.{rules}
+use native.Mathlib.Omega.{arith}
+use mathlib.Core.Path.{refl}
+use Rattle.job_lines.proofs.Decimals.{Written, none_written, place_left, more_written, all_written}
+use Rattle.job_lines.proofs.decimal.digits_of.Given as goal
+
+abbrev pub invariant-loop-rest : goal.invariant-loop-rest
+invariant-loop-rest l = Written l.n l.bytes l.from l.rest
+
+abbrev pub decreases-loop-rest : goal.decreases-loop-rest
+decreases-loop-rest l = l.from

@@ -1,0 +1,6 @@
+-- One byte more.
+use borrow.Author.Rules.{rules}
+use Rattle.job_lines.proofs.text.end_line.Goals as goal
+
+pub returns : goal.returns
+returns c = c.append.ensures
