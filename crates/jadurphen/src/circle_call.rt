@@ -8,9 +8,8 @@ ghost use Rattle.crossings.specs.Calls.{circle_returned, circle_crossing};
 use circle_rules::CircleAnswer;
 use grid::{Cell, Col, Grid, Row};
 
-// Declared in include/jadurphen.h: the population of a circle.
-#[unsafe(no_mangle)]
-pub extern "C" fn jadurphen_circle(
+// Exported to C by crates/jadurphen_c: the population of a circle.
+pub fn jadurphen_circle(
     width: u32,
     height: u32,
     origin_lat: f64,

@@ -1,5 +1,5 @@
 // The C boundary: each call over numbers and slices. It returns 0, or the number of its refusal with nothing written.
-// A slice crosses as two arguments, its pointer and its length; `include/jadurphen.h` declares the functions.
+// The crate `jadurphen_c` exports the four under these names.
 #![tactic(auto)]
 
 mod circle_call;

@@ -11,9 +11,8 @@ use grid::{Cell, Col, Grid, RadiusKm, Row};
 use ledger::Entry;
 use put::PutAnswer;
 
-// Declared in include/jadurphen.h: an entry put into the ledger.
-#[unsafe(no_mangle)]
-pub extern "C" fn jadurphen_put(
+// Exported to C by crates/jadurphen_c: an entry put into the ledger.
+pub fn jadurphen_put(
     width: u32,
     height: u32,
     origin_lat: f64,

@@ -9,9 +9,8 @@ use grid::Grid;
 use most_populous::SearchAnswer;
 use spacing::Spacing;
 
-// Declared in include/jadurphen.h: the most populous circle of a radius, as words, and the tolerance in persons.
-#[unsafe(no_mangle)]
-pub extern "C" fn jadurphen_search(
+// Exported to C by crates/jadurphen_c: the most populous circle of a radius, as words, and the tolerance in persons.
+pub fn jadurphen_search(
     width: u32,
     height: u32,
     origin_lat: f64,

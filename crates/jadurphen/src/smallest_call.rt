@@ -8,10 +8,9 @@ ghost use Rattle.crossings.specs.Smallest.{smallest_returned, smallest_crossing}
 use grid::Grid;
 use smallest_rules::SmallestAnswer;
 
-// Declared in include/jadurphen.h: the smallest whole-kilometre radius whose best circle holds the share, as words and
+// Exported to C by crates/jadurphen_c: the smallest whole-kilometre radius whose best circle holds the share, as words and
 // floats, and the ledger after it.
-#[unsafe(no_mangle)]
-pub extern "C" fn jadurphen_smallest(
+pub fn jadurphen_smallest(
     width: u32,
     height: u32,
     origin_lat: f64,
