@@ -1,4 +1,4 @@
-//! Jadurphen's calls from Rust, over the static library that `rt staticlib jadurphen` writes. A studio can take this file as it is.
+//! Jadurphen's calls from Rust, over the static library that `tools/library` writes. A studio can take this file as it is.
 //!
 //! `include/jadurphen.h` says what each field means; lengths are judged by the calls, so nothing here can fail but by a `Refusal`.
 //! After a refusal everything lent is as it was.

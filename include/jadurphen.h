@@ -1,4 +1,4 @@
-/* Jadurphen's calls for C (C99) and C++ (C++11). The static library that `rt staticlib jadurphen` writes has them:
+/* Jadurphen's calls for C (C99) and C++ (C++11). The static library that `tools/library` writes has them:
  * target/staticlib/libjadurphen.a.
  *
  * A call puts its questions in order and returns 0, or the number of the first question that is answered no (enum

@@ -1,5 +1,5 @@
-//! The judge of a sheet, the call's question 6 and a second reading, asked of the same sheets: sheets SEED COUNT.
-//! The module is asked by lists of cases that the program of `crates/test_edges` plays; fails on a disagreement.
+//! The judge of a sheet, the call's question 6 and a second reading, asked of the same sheets: sheets PROGRAM SEED COUNT.
+//! The module is asked by lists of cases that PROGRAM, that of `crates/test_edges`, plays; fails on a disagreement.
 
 mod damage;
 
@@ -202,28 +202,25 @@ fn sheets(seed: u64, count: u64, program: &Path, folder: &Path) -> Result<ExitCo
     Ok(tally.tell(seed, count))
 }
 
-/// The program and a scratch folder, both from the repository's root.
-fn places() -> std::io::Result<(PathBuf, PathBuf)> {
+/// The program that plays the lists, and a scratch folder below the repository's root.
+fn places(program: &str) -> std::io::Result<(PathBuf, PathBuf)> {
     let folder = Path::new("target/oracle/lists");
     fs::create_dir_all(folder)?;
-    Ok((
-        fs::canonicalize("target/bin/test_edges")?,
-        fs::canonicalize(folder)?,
-    ))
+    Ok((fs::canonicalize(program)?, fs::canonicalize(folder)?))
 }
 
 fn main() -> ExitCode {
     let words: Vec<String> = std::env::args().skip(1).collect();
-    let [seed, count] = &words[..] else {
-        println!("sheets SEED COUNT");
+    let [program, seed, count] = &words[..] else {
+        println!("oracle/sheets SEED COUNT");
         return ExitCode::FAILURE;
     };
     let (Ok(seed), Ok(count)) = (seed.parse(), count.parse()) else {
-        println!("sheets SEED COUNT");
+        println!("oracle/sheets SEED COUNT");
         return ExitCode::FAILURE;
     };
-    let done = places()
-        .map_err(|error| format!("target: {error}"))
+    let done = places(program)
+        .map_err(|error| format!("{program}, target: {error}"))
         .and_then(|(program, folder)| sheets(seed, count, &program, &folder));
     done.unwrap_or_else(|error| {
         println!("{error}");
