@@ -12,7 +12,7 @@ use Rattle.job_lines.specs.contracts.Digits as D
 use Rattle.job_lines.specs.contracts.Line as L
 
 pub line_whole : (l : Line) (vs : List Val) → Is L.the_row l vs → length l.bytes ≡ line_room
-line_whole l vs is = simp length-map at is.1.1.1.0.1.0.1
+line_whole l vs is = is.1.1.1.0.1.0.1
 
 pub digits_whole : (d : Digits) (vs : List Val) → Is D.the_row d vs → length d.bytes ≡ most_digits
-digits_whole d vs is = simp length-map at is.1.1.1.0.1.0.1
+digits_whole d vs is = is.1.1.1.0.1.0.1

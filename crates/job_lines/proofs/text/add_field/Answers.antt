@@ -14,7 +14,7 @@ slice_bounds-append-start c = let digits_of = c.digits_of-d in omega (arith, dig
 pub slice_bounds-append-end-2 : goal.slice_bounds-append-end-2
 slice_bounds-append-end-2 c =
     let digits_of = c.digits_of-d in
-    omega (arith, digits_whole digits_of.result _ digits_of.type-inv)
+    omega (arith, digits_whole digits_of.result _ digits_of.type_inv)
 
 pub append-requires : goal.append-requires
 append-requires c =
@@ -26,4 +26,4 @@ returns c =
     let append = c.append-spaced in
     let digits_of = c.digits_of-d in
     field_longer digits_of.result c.args.n digits_of.ensures c.args.line append.result c.append.result
-    append.ensures c.append.ensures (digits_whole digits_of.result _ digits_of.type-inv)
+    append.ensures c.append.ensures (digits_whole digits_of.result _ digits_of.type_inv)

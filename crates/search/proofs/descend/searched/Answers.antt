@@ -1,0 +1,47 @@
+-- `search::descend::searched`. Invariant: what is left of the levels, from the blocks in the first buffer, is the whole search.
+use Prim.Native.Nat.{◌+◌, ◌-◌}
+use mathlib.Core.Path.{◌∙◌}
+use native.Mathlib.Omega.{arith}
+use Rattle.search.proofs.Descents.{Descending, descend_start, descend_words, descend_sweeps, descend_light, descend_takes, descend_less, descend_next, descend_done}
+use borrow.Author.Rules.{rules}
+use Rattle.search.proofs.descend.searched.Goals as goal
+
+pub first_level-live-requires : goal.first_level-live-requires
+first_level-live-requires c = c.requires.two_buffers
+
+pub loop-live-init : goal.loop-live-init
+loop-live-init c =
+    let f = c.first_level-live in
+    let p = c.requires in
+    rw c.nothing-found.ensures
+    (descend_start _ _ _ _ _ _ _ _ p.ready (omega (arith, p.two_buffers.current_room, f.auto)) (omega (arith, p.two_buffers.following_room, f.auto)) _ f.ensures)
+
+pub level-level-requires : goal.level-level-requires
+level-level-requires c =
+    record { ready = c.requires.ready; n_in_bounds = descend_words _ _ _ _ _ _ _ _ c.requires.ready _ _ _ _ c.loop-live.invariant; can_sweep = descend_sweeps _ _ _ _ _ _ _ _ c.requires.ready _ _ _ _ c.loop-live.invariant }
+
+pub with_level-found-requires : goal.with_level-found-requires
+with_level-found-requires c =
+    descend_light _ _ _ _ _ _ _ _ c.requires.ready _ _ _ _ c.loop-live.invariant c.loop-live-test.true _ _ c.level-level.ensures
+
+pub insert_from-requires : goal.insert_from-requires
+insert_from-requires c =
+    descend_takes _ _ _ _ _ _ _ _ c.requires.ready _ _ _ _ c.loop-live.invariant c.loop-live-test.true _ _ c.level-level.ensures c.level-level.auto.following
+
+pub loop-live-smaller : goal.loop-live-smaller
+loop-live-smaller c =
+    rw c.with_level-found.ensures (descend_less _ _ _ _ _ _ _ _ c.requires.ready _ _ _ _ c.loop-live.invariant c.loop-live-test.true _ _ c.level-level.ensures c.level-level.auto.following)
+
+pub loop-live-preserved : goal.loop-live-preserved
+loop-live-preserved c =
+    let i = c.insert_from in
+    rw c.with_level-found.ensures (descend_next _ _ _ _ _ _ _ _ c.requires.ready _ _ _ _ c.loop-live.invariant c.loop-live-test.true _ _ c.level-level.ensures c.level-level.auto.following _ i.auto.to i.ensures)
+
+pub shape_of-current : goal.shape_of-current
+shape_of-current c = c.loop-live.invariant.current_size ∙ c.first_level-live.auto.current
+
+pub shape_of-following : goal.shape_of-following
+shape_of-following c = c.loop-live.invariant.following_size ∙ c.first_level-live.auto.following
+
+pub returns : goal.returns
+returns c = descend_done _ _ _ _ _ _ _ _ c.requires.ready _ _ _ _ c.loop-live.invariant c.loop-live-test.false
