@@ -17,9 +17,6 @@ use Rattle.most_populous.proofs.call.search_asked.Reads as reads
 use Rattle.most_populous.proofs.call.search_asked.Tie as tie
 use Rattle.most_populous.proofs.call.search_asked.Goals as goal
 
-abbrev In-Within-2 : Type 0
-In-Within-2 = lts.After-radius tie.the-claims reads.Pre reads.Post
-
 abbrev Else-refusal-ne0 : Type 0
 Else-refusal-ne0 = lts.Else1 tie.the-claims reads.Pre reads.Post
 
@@ -32,9 +29,6 @@ map-yes e = sym e.map_refusal-refusal.ensures ∙ e.if-refusal-ne0.false
 fits : (e : Else-not-buffers_fit) → let a = e.args in
     buffers_fit a.grid (record { sums = a.sums.now; current = a.current.now; following = a.following.now }) ≡ true
 fits e = said_yes e.buffers_fit.ensures e.if-not-buffers_fit.false
-
-in_range : (r : In-Within-2) → let a = r.args in radius_in_range a.grid a.km ≡ true
-in_range r = within_range _ _ _ (sym r.new.ensures ∙ r.radius-1.given.1)
 
 pub returns-then-refusal-ne0 : goal.returns-then-refusal-ne0
 unfolding search_questions
@@ -51,7 +45,7 @@ unfolding search_questions
 returns-then-not-spacing_given c =
     refusal_left 10 _ _
     (after_map _ _ (map-yes c.before.before.before.before.before.before.before)
-    (asked_yes 7 _ (fits c.before.before.before.before.before) (asked_yes 8 _ (in_range c.before.before.before) (asked_no _ (said_no c.spacing_given.ensures c.if-not-spacing_given.true)))))
+    (asked_yes 7 _ (fits c.before.before.before.before.before) (asked_yes 8 _ (within_range _ _ _ (sym c.new.ensures ∙ c.in-Within.is)) (asked_no _ (said_no c.spacing_given.ensures c.if-not-spacing_given.true)))))
     (λ z. omega (arith, z))
 
 pub returns-in-Beyond : goal.returns-in-Beyond
@@ -66,5 +60,5 @@ unfolding search_questions
 returns-else-not-spacing_given c =
     radius_left _ _ _
     (after_map _ _ (map-yes c.before.before.before.before.before.before.before)
-    (asked_yes 7 _ (fits c.before.before.before.before.before) (asked_yes 8 _ (in_range c.before.before.before) (asked_yes 10 _ (said_yes c.spacing_given.ensures c.if-not-spacing_given.false) asked_none))))
+    (asked_yes 7 _ (fits c.before.before.before.before.before) (asked_yes 8 _ (within_range _ _ _ (sym c.new.ensures ∙ c.in-Within.is)) (asked_yes 10 _ (said_yes c.spacing_given.ensures c.if-not-spacing_given.false) asked_none))))
     (radius_within _ _ _ (sym c.new.ensures ∙ c.in-Within.is)).1
