@@ -1,0 +1,7 @@
+-- The nineteen words in order.
+use Rattle.crossings.proofs.SmallestCrossings.{words_laid}
+use borrow.Author.Rules.{rules}
+use Rattle.crossings.proofs.settled.smallest_words.Goals as goal
+
+pub returns : goal.returns
+returns c = words_laid _ _ _ c.short_words-short.ensures c.ambiguity_words-ambiguity.ensures
