@@ -12,15 +12,15 @@ from dataclasses import dataclass, field
 # A name of antt is any run of characters but these, or anything between « and ».
 NAME = r'(?:«[^»\n]*»|[^\s(){}.;,@"«»]+)'
 PATH = rf"{NAME}(?:\.{NAME})*"
-# A name or a path that stands by itself: ` .field` is a projection and cites nothing.
+# A name or a path that stands by itself; what comes behind a term in parentheses, as `.field` in `(f x).field`, cites nothing.
 WORD = re.compile(rf'(?<![^\s(){{}};,@"«»]){PATH}')
 USE = re.compile(rf"^[ \t]*(?:unfoldable[ \t]+)?(pub[ \t]+)?(?:ghost[ \t]+)?use[ \t]+({PATH})(?:\.\{{([^}}]*)\}}|[ \t]+as[ \t]+({NAME}))?", re.M)
 SIGNATURE = re.compile(rf"((?:(?:unfoldable|abbrev|axiom|pub)[ \t]+)*)({NAME})(?:[ \t]*\{{[^}}\n]*\}})?[ \t]*:(?=\s|$)(.*)")
 DECLARED = re.compile(rf"(pub[ \t]+)?(record|data|ruleset)[ \t]+({NAME})(.*)")
 MEMBER = re.compile(rf"[ \t]+(?:pub[ \t]+)?({NAME})[ \t]*:(?=\s|$)", re.M)
 HEADER = re.compile(r"(?:(?:unfoldable[ \t]+)?(?:pub[ \t]+)?(?:use|mod)|infix[lr]?|open)(?=\s)")
-OURS = re.compile(r"Rattle·([^.·]+)(?:·(?:specs|proofs))?\.(specs|proofs)(?:\.(.+))?$")
-CITED_CRATE = re.compile(r"(?<![\w·])Rattle·([^\s.·{}();,]+)")
+OURS = re.compile(r"Rattle\.(\w+)\.(specs|proofs)(?:\.(.+))?$")
+CITED_CRATE = re.compile(r"(?<![\w.])Rattle\.(\w+)\.(?:specs|proofs)\b")
 
 
 class Trouble(Exception):
@@ -109,9 +109,17 @@ def reached(base, name):
     return seen
 
 
+PARTS = ("src", "specs", "proofs")  # of a crate's folder, what is written by hand; its out/ is the toolchain's
+
+
 def files(folder, *suffixes):
     """The files below a folder with one of these endings, sorted."""
     return sorted(os.path.join(place, name) for place, _, names in os.walk(folder) for name in names if name.endswith(suffixes))
+
+
+def written(base, crate, *suffixes):
+    """The files of a crate's src, specs and proofs with one of these endings."""
+    return [path for part in PARTS for path in files(os.path.join(base, "crates", crate, part), *suffixes)]
 
 
 def read(path):
@@ -150,12 +158,17 @@ class Declaration:
     members: list = field(default_factory=list)  # fields of a record, constructors of a data type
 
     def words(self, text):
-        return {word.group() for word in WORD.finditer(text, self.start, self.end) if not label(text, word)}
+        return cited(word.group() for word in WORD.finditer(text, self.start, self.end) if not label(text, word))
 
 
 def label(text, word):
-    """Whether a word is the name of a field in `record { name = .. }`."""
-    return text[:word.start()].rstrip()[-1:] in ("{", ";") and re.match(r"\s*=(?!\S)", text[word.end():word.end() + 40]) is not None
+    """Whether a word is the name of a field in `record { name = .. }` or `record { name : .. }`."""
+    return text[:word.start()].rstrip()[-1:] in ("{", ";") and re.match(r"\s*[=:](?!\S)", text[word.end():word.end() + 40]) is not None
+
+
+def cited(words):
+    """The names that words cite: of `a.b.c`, which may be a module's name or a term with its fields, `a`, `a.b` and `a.b.c`."""
+    return {".".join(parts[:end]) for word in words for parts in [word.split(".")] for end in range(1, len(parts) + 1)}
 
 
 def declarations(text):
@@ -231,7 +244,7 @@ def uses(text):
 
 
 def module(path):
-    """A module of this repository as (crate, specs or proofs, dotted path below it), by either of its names; else None."""
+    """A module of a crate as (crate, specs or proofs, dotted path below it), or None."""
     match = OURS.match(path)
     return match and (match[1], match[2], match[3] or "")
 
@@ -253,6 +266,7 @@ class Function:
     body: int  # where its body begins
 
 
+IMPL = re.compile(r"^impl(?:<[^>]*>)?[ \t]+(?:[^{\n]*[ \t]for[ \t]+)?(\w+)[^{\n]*\{", re.M)
 FUNCTION = re.compile(r"^[ \t]*(pub(?:\([^)]*\))?[ \t]+)?(?:const[ \t]+)?(?:extern[ \t]+)?fn[ \t]+(\w+)", re.M)
 
 
@@ -271,7 +285,7 @@ def closing(text, at):
 
 def functions(text):
     """The functions of a bare text of Rattle, each with the clauses of its contract."""
-    owners = [(m.start(), closing(text, m.end() - 1), m[1]) for m in re.finditer(r"^impl(?:<[^>]*>)?[ \t]+(\w+)[^{\n]*\{", text, re.M)]
+    owners = [(m.start(), closing(text, m.end() - 1), m[1]) for m in IMPL.finditer(text)]
     found = []
     for match in FUNCTION.finditer(text):
         owner = next((name for start, end, name in owners if start < match.start() < end), "")
@@ -279,7 +293,7 @@ def functions(text):
         while (bracket := re.compile(r"[\[{;]").search(text, place + 1)) and bracket.group() != ";":
             end = closing(text, bracket.start())
             if bracket.group() == "{":
-                clause = re.search(r"\b(requires|ensures|ghost)\b(?:\s+\w+)?\s*$", text[place + 1:bracket.start()])
+                clause = re.search(r"\b(requires|ensures|ghost)\b\*?(?:\s+\w+)?\s*$", text[place + 1:bracket.start()])
                 if clause is None:  # the body
                     break
                 clauses.append((clause[1], place + 1 + clause.start(), end))
