@@ -118,8 +118,8 @@ def files(folder, *suffixes):
 
 
 def written(base, crate, *suffixes):
-    """The files of a crate's src, specs and proofs with one of these endings."""
-    return [path for part in PARTS for path in files(os.path.join(base, "crates", crate, part), *suffixes)]
+    """The files of a crate's src, specs and proofs with one of these endings, sorted."""
+    return sorted(path for part in PARTS for path in files(os.path.join(base, "crates", crate, part), *suffixes))
 
 
 def read(path):
