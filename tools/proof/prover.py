@@ -17,7 +17,7 @@ DECLARED = re.compile(r"(?:struct|enum|impl|trait|const|static|union) (.+?): (?!
 OPEN = re.compile(r"note: `(\S+)` of (\S+) must prove: (.*)", re.S)
 WARNED = re.compile(r"warning: |rt: warning: |rt: note: (?=\S*must-fail/)")
 # What is said of a declaration only because one below it was refused.
-FOLLOWS = re.compile(r"was not admitted \(it has holes|cannot be unfolded because it was not admitted|\d+ declarations? that depends? on `[^`]*`, which was not")
+FOLLOWS = re.compile(r"was not admitted \(it has holes|cannot be unfolded because it was not admitted|declarations? that depends? on `[^`]*`, which was not")
 # Whose lines follow: rt checks what a crate depends on first, where that has changed.
 TURN = re.compile(r"rt: chose --jobs \d+ for (\w+)$")
 DOTTED = re.compile(r"(?<![^\s(){};,@`«»])[A-Za-z][\w'-]+(?:\.[^\s(){}.;,@`«»]+)+")
@@ -132,7 +132,7 @@ def copy(base, crate):
         crates = tree.listed(base)
         wanted = (crate, *tree.reached(base, crate))
         with open(os.path.join(folder, "crates.txt"), "w", encoding="utf-8") as file:
-            file.writelines(f"{name}: {' '.join(crates[name].needs)}\n" for name in wanted)
+            file.writelines(f"{' '.join((name, *crates[name].marks))}: {' '.join(crates[name].needs)}\n" for name in wanted)
         bring(os.path.join(base, "HANDLES"), os.path.join(folder, "HANDLES"))
         for name in wanted:
             for part in tree.PARTS:

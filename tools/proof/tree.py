@@ -64,6 +64,7 @@ class Crate:
     name: str
     needs: list
     line: int
+    marks: list  # what stands behind its name, as `staticlib`
 
 
 def root():
@@ -87,7 +88,8 @@ def listed(base):
         name, colon, needs = line.partition(":")
         if not colon:
             raise Trouble(f"crates.txt:{number}: expected NAME: DEP DEP ..")
-        crates[name.strip()] = Crate(name.strip(), needs.split(), number)
+        name, *marks = name.split()
+        crates[name] = Crate(name, needs.split(), number, marks)
     return crates
 
 
