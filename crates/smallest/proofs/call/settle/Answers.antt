@@ -1,0 +1,17 @@
+-- `smallest::call::settle`: the total, the target and the slack, the run, and the answer from its end.
+use borrow.Author.Rules.{rules}
+use Rattle.smallest.proofs.Settling.{can_run, can_conclude, is_settled}
+use Rattle.smallest.proofs.call.settle.Goals as goal
+
+pub run-ran-requires : goal.run-ran-requires
+run-ran-requires c =
+    can_run c.requires c.args.spacing c.whole_at-total.ensures c.target_of-target.ensures c.predicate_slack_persons-slack.ensures
+
+pub conclude-found-requires : goal.conclude-found-requires
+conclude-found-requires c =
+    can_conclude c.requires c.args.spacing c.whole_at-total.ensures c.target_of-target.ensures c.predicate_slack_persons-slack.ensures c.run-ran.ensures
+
+pub returns : goal.returns
+returns c =
+    is_settled c.requires c.args.spacing c.whole_at-total.ensures c.target_of-target.ensures c.predicate_slack_persons-slack.ensures c.run-ran.ensures
+    c.conclude-found.ensures
