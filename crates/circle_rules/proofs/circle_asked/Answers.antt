@@ -2,7 +2,6 @@
 use mathlib.Core.Path.{◌≡◌, sym, ◌∙◌}
 use mathlib.Core.Bool.{true}
 use native.Mathlib.Omega.{arith}
-use borrow.Author.Rules.{rules}
 use Rattle.grid.specs.Map.{lent_map}
 use Rattle.grid.specs.Answer.{first_no}
 use Rattle.grid.specs.Questions.{map_questions}
@@ -10,7 +9,6 @@ use Rattle.grid.proofs.General.{said_no, said_yes}
 use Rattle.grid.proofs.Answers.{asked_yes, asked_no, asked_none, refused_before, after_map}
 use Rattle.grid.proofs.Found.{radius_within}
 use Rattle.sums.specs.Sums.{sums_fit}
-use Rattle.grid.specs.Questions.{radius_in_range}
 use Rattle.circle_rules.specs.Call.{circle_questions}
 use Rattle.grid.proofs.Radii.{within_range, beyond_range, radius_left, refusal_left}
 use Rattle.circle_rules.proofs.circle_asked.Lts as lts

@@ -3,7 +3,6 @@ use mathlib.Core.Path.{sym, ◌∙◌}
 use lib.Ieee.{div, of_bits}
 use Rattle.lists.proofs.Bools.{of_false}
 use Rattle.floats.proofs.Patterns.{nan_of}
-use borrow.Author.Rules.{rules}
 use Rattle.floats.proofs.from_bits.Goals as goal
 
 pub returns-then-is_nan : goal.returns-then-is_nan

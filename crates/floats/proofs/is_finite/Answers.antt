@@ -1,8 +1,6 @@
 -- Below the infinity, and above its negation.
 use lib.Ieee.{neg}
 use Rattle.floats.proofs.Finite.{finite_within}
-use borrow.Author.Rules.{rules}
-use Rattle.floats.proofs.infinity.Reads as infinity-reads
 use Rattle.floats.proofs.is_finite.Goals as goal
 
 pub returns-then-x-top : goal.returns-then-x-top

@@ -3,7 +3,6 @@ use mathlib.Core.Path.{sym}
 use lib.Ieee.{nan_bits}
 use Rattle.lists.proofs.Bools.{of_true}
 use Rattle.floats.proofs.Next.{next_nan, no_nan_of, next_zero, next_infinite, next_above, next_below, above_no_nan, below_no_nan}
-use borrow.Author.Rules.{rules}
 use Rattle.floats.proofs.next_up.Goals as goal
 
 pub returns-then-x : goal.returns-then-x

@@ -1,7 +1,6 @@
 -- The code is the definition.
 use Rattle.grid.specs.Questions.{columns_close}
 use Rattle.grid_questions.proofs.Literals.{literal_360}
-use borrow.Author.Rules.{rules}
 use Rattle.grid_questions.proofs.columns_close.Goals as goal
 
 pub returns : goal.returns

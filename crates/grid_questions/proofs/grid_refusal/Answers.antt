@@ -1,7 +1,6 @@
 -- Each way out by its question, those before it being answered yes.
 use mathlib.Core.Path.{◌≡◌}
 use mathlib.Core.Bool.{true}
-use borrow.Author.Rules.{rules}
 use Rattle.grid.specs.Questions.{sizes_in_range, latitudes_in_range, grid_questions}
 use Rattle.grid.proofs.General.{said_no, said_yes}
 use Rattle.grid.proofs.Answers.{asked_yes, asked_no, asked_none}

@@ -1,7 +1,6 @@
 -- Each way out by its tests.
 use mathlib.Core.Path.{◌≡◌}
 use mathlib.Core.Bool.{true}
-use borrow.Author.Rules.{rules}
 use Rattle.floats.specs.Binary.{finite}
 use Rattle.grid.specs.Questions.{latitudes_in_range}
 use Rattle.grid.proofs.General.{said_no, said_yes}

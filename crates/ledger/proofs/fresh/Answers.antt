@@ -1,5 +1,4 @@
 -- Both ends are the same 512 blank entries.
-use borrow.Author.Rules.{rules}
 use Rattle.ledger.specs.State.{fresh_ledger}
 use Rattle.ledger.proofs.fresh.Goals as goal
 

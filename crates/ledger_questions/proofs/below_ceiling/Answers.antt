@@ -1,5 +1,4 @@
 -- The comparison with the grid's ceiling.
-use borrow.Author.Rules.{rules}
 use Rattle.ledger_questions.proofs.below_ceiling.Goals as goal
 
 pub returns : goal.returns

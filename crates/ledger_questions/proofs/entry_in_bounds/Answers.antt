@@ -2,8 +2,6 @@
 use mathlib.Core.Path.{◌≡◌, sym, ◌∙◌}
 use mathlib.Core.Bool.{true}
 use lib.Dec.{ltb}
-use borrow.Author.Tests.{not-true, not-false}
-use borrow.Author.Rules.{rules}
 use Rattle.grid.specs.Grid.{ceiling}
 use Rattle.ledger.specs.Ledger.{entry_in_bounds}
 use Rattle.ledger_questions.proofs.entry_in_bounds.Lts as lts

@@ -1,6 +1,5 @@
 -- Each way out by its tests.
 use borrow.Author.Tests.{le-leb, lt-leb}
-use borrow.Author.Rules.{rules}
 use Rattle.ledger_questions.proofs.follows.Goals as goal
 
 pub returns-then-entry-least : goal.returns-then-entry-least

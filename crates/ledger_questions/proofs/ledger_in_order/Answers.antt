@@ -1,15 +1,14 @@
 -- Invariant: question 11 is left to the entries from i on, the first of them not below least.
-use Prim.Native.Nat.{◌-◌, ◌≤◌, ◌<◌, min}
+use Prim.Native.Nat.{◌-◌, ◌<◌, min}
 use mathlib.Core.Path.{◌≡◌, sym, ◌∙◌}
 use native.Mathlib.Omega.{arith}
 use native.Mathlib.Nat.{min-eq_left}
-use lib.ListN.{length, drop}
-use borrow.Author.Tests.{not-true, not-false, leb-true}
-use borrow.Author.Rules.{rules}
+use lib.ListN.{length}
+use borrow.Author.Tests.{leb-true}
 use Rattle.grid.proofs.Body.{ceiling_most}
-use Rattle.ledger.specs.Ledger.{capacity, entries, ledger_in_order}
+use Rattle.ledger.specs.Ledger.{capacity}
 use Rattle.ledger.proofs.Whole.{places_whole}
-use Rattle.ledger.proofs.Places.{order_from, from_end, order_counted, order_beyond, order_next, order_stop, order_end, km_below}
+use Rattle.ledger.proofs.Places.{from_end, order_counted, order_beyond, order_next, order_stop, order_end, km_below}
 use Rattle.ledger_questions.proofs.ledger_in_order.Lts as lts
 use Rattle.ledger_questions.proofs.ledger_in_order.Reads as reads
 use Rattle.ledger_questions.proofs.ledger_in_order.Tie as tie

@@ -1,6 +1,5 @@
 -- By what get found.
 use mathlib.Core.Path.{sym, ◌∙◌}
-use borrow.Author.Rules.{rules}
 use Rattle.ledger.specs.Ledger.{place_for}
 use Rattle.ledger_questions.proofs.place_for.Goals as goal
 

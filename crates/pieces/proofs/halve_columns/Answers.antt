@@ -1,7 +1,6 @@
 -- One store or two.
 use native.Mathlib.Omega.{arith}
 use lib.ListN.{length-set}
-use borrow.Author.Rules.{rules}
 use Rattle.blocks.proofs.Cuts.{middle_small}
 use Rattle.pieces.proofs.Halved.{room_one, room_two, halve_one, halve_two}
 use Rattle.pieces.proofs.halve_columns.Goals as goal

@@ -2,7 +2,6 @@
 use mathlib.Core.Path.{◌≡◌, sym, ◌∙◌}
 use mathlib.Core.Bool.{false}
 use native.Mathlib.Omega.{arith}
-use borrow.Author.Rules.{rules}
 use Rattle.blocks.specs.Block.{is_cell, split}
 use Rattle.blocks.specs.State.{column_halves}
 use Rattle.blocks.proofs.Cuts.{middle_small, split_columns}

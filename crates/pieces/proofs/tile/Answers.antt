@@ -1,12 +1,11 @@
 -- Invariant: the rows of tiles written and those left are the tiles.
-use Prim.Native.Nat.{◌-◌, ◌≤◌}
+use Prim.Native.Nat.{◌-◌}
 use native.Mathlib.Omega.{arith}
 use borrow.Author.Rules.{rules}
 use Rattle.lists.proofs.Folds.{length_each}
-use Rattle.lists.proofs.Writes.{Writing}
 use Rattle.blocks.specs.State.{word_of}
 use Rattle.blocks.specs.Block.{tile}
-use Rattle.pieces.proofs.TileWords.{tiles_left, tiles_whole, tiles_start, tiles_room, tiles_step, tiles_done, tiles_of}
+use Rattle.pieces.proofs.TileWords.{tiles_start, tiles_room, tiles_step, tiles_done, tiles_of}
 use Rattle.pieces.proofs.tile.Goals as goal
 
 pub loop-north-init : goal.loop-north-init

@@ -1,11 +1,9 @@
 -- Invariant: the tiles written and those left are the row.
-use Prim.Native.Nat.{◌-◌, ◌≤◌, ◌<◌}
+use Prim.Native.Nat.{◌-◌, ◌<◌}
 use native.Mathlib.Omega.{arith}
 use lib.ListN.{length}
 use borrow.Author.Rules.{rules}
-use Rattle.lists.proofs.Writes.{Writing}
-use Rattle.blocks.specs.Block.{range}
-use Rattle.pieces.proofs.TileWords.{row_left, row_whole, row_start, row_room, row_step, row_done}
+use Rattle.pieces.proofs.TileWords.{row_start, row_room, row_step, row_done}
 use Rattle.pieces.proofs.tile_row.Lts as lts
 use Rattle.pieces.proofs.tile_row.Reads as reads
 use Rattle.pieces.proofs.tile_row.Tie as tie

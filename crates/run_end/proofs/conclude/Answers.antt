@@ -1,5 +1,4 @@
 -- `run_end::conclude`: each field from the end of the run.
-use borrow.Author.Rules.{rules}
 use Rattle.floats.proofs.Literals.{literal_0}
 use Rattle.probes.specs.State.{answer_by}
 use Rattle.run_end.proofs.Ends.{row_on}

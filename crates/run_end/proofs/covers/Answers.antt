@@ -1,6 +1,5 @@
 -- Each way out by its test: the circle is the whole grid where its kernel is.
 use mathlib.Core.Path.{◌∙◌}
-use borrow.Author.Rules.{rules}
 use Rattle.floats.specs.Binary.{whole}
 use Rattle.kernel.proofs.WholeGrid.{kernel_covers_lem}
 use Rattle.probes.specs.State.{end_covers}

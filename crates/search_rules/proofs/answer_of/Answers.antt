@@ -1,6 +1,5 @@
 -- `search_rules::answer_of`: what is held, named, with the counts.
 use Rattle.floats.proofs.Literals.{literal_0}
-use borrow.Author.Rules.{rules}
 use Rattle.search_rules.proofs.answer_of.Goals as goal
 
 pub returns : goal.returns

@@ -1,7 +1,6 @@
 -- `search_rules::held_or_north_west`: a case for each way of holding.
 use Rattle.candidates.specs.Candidate.{north_west}
 use Rattle.search_rules.specs.Search.{held_or}
-use borrow.Author.Rules.{rules}
 use Rattle.search_rules.proofs.held_or_north_west.Goals as goal
 
 pub returns-in-Nobody : goal.returns-in-Nobody

@@ -1,6 +1,5 @@
 -- `search_rules::nothing`: nothing held, every count 0.
 use Rattle.tally.specs.Counts.{no_tally, no_stats}
-use borrow.Author.Rules.{rules}
 use Rattle.search_rules.proofs.nothing.Goals as goal
 
 pub returns : goal.returns

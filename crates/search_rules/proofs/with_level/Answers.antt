@@ -1,6 +1,5 @@
 -- `search_rules::with_level`: the counts added.
 use Rattle.search_rules.specs.State.{with_level}
-use borrow.Author.Rules.{rules}
 use Rattle.search_rules.proofs.with_level.Goals as goal
 
 pub returns : goal.returns

@@ -1,7 +1,6 @@
 -- The code is the definition.
 use Rattle.share.specs.Target.{predicate_slack_persons}
 use Rattle.floats.proofs.Literals.{literal_4}
-use borrow.Author.Rules.{rules}
 use Rattle.share.proofs.predicate_slack_persons.Goals as goal
 
 pub returns : goal.returns

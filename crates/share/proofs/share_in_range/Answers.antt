@@ -1,9 +1,7 @@
 -- Each way out by its tests.
 use mathlib.Core.Path.{sym, ◌∙◌}
-use borrow.Author.Tests.{not-true, not-false}
 use Rattle.share.specs.Target.{share_in_range}
 use Rattle.floats.proofs.Literals.{literal_0, literal_1}
-use borrow.Author.Rules.{rules}
 use Rattle.share.proofs.share_in_range.Goals as goal
 
 pub returns-then-not-is_finite : goal.returns-then-not-is_finite

@@ -1,7 +1,6 @@
 -- The code is the definition.
 use borrow.Author.Tests.{le-leb}
 use lib.Ieee.{in_float}
-use borrow.Author.Rules.{rules}
 use Rattle.share.proofs.target_of.Goals as goal
 
 pub int_to_float-total : goal.int_to_float-total

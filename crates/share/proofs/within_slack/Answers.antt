@@ -1,7 +1,6 @@
 -- The code is the definition.
 use borrow.Author.Tests.{le-leb}
 use lib.Ieee.{in_float}
-use borrow.Author.Rules.{rules}
 use Rattle.share.specs.Target.{within_slack}
 use Rattle.share.proofs.within_slack.Goals as goal
 

@@ -1,7 +1,6 @@
 -- `smallest_rules::own_refusal`: one question after another.
 use mathlib.Core.Path.{◌≡◌}
 use mathlib.Core.Bool.{true}
-use borrow.Author.Rules.{rules}
 use Rattle.grid.proofs.General.{said_no, said_yes}
 use Rattle.grid.proofs.Answers.{asked_yes, asked_no, asked_none}
 use Rattle.spacing.specs.Spacing.{spacing_given}

@@ -10,7 +10,6 @@ use borrow.Author.Rules.{part_to_end}
 use Rattle.sums.specs.Sums.{sums_words}
 use Rattle.sums.specs.State.{table_map}
 use Rattle.sums.proofs.Laws.{corner_read, corner_place}
-use borrow.Author.Rules.{rules}
 use Rattle.sums.proofs.corner.Lts as lts
 use Rattle.sums.proofs.corner.Reads as reads
 use Rattle.sums.proofs.corner.Tie as tie

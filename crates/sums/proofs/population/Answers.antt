@@ -6,7 +6,6 @@ use Rattle.grid.specs.Map.{Map}
 use Rattle.sums.specs.State.{table_map}
 use Rattle.sums.proofs.Laws.{rectangle_total}
 use Rattle.sums.proofs.Bands.{rows_of, band_plain, band_seam}
-use borrow.Author.Rules.{rules}
 use Rattle.sums.proofs.population.Lts as lts
 use Rattle.sums.proofs.population.Reads as reads
 use Rattle.sums.proofs.population.Tie as tie

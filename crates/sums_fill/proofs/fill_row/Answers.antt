@@ -14,7 +14,7 @@ use Rattle.grid.specs.Map.{Map, count}
 use Rattle.sums.specs.Sums.{sums_word}
 use Rattle.sums.specs.State.{counts_map}
 use Rattle.sums.proofs.Laws.{row_bound, corner_small}
-use Rattle.sums_fill.proofs.Filling.{word_of, word_of_lem, word_west, row_step, row_up}
+use Rattle.sums_fill.proofs.Filling.{word_of_lem, word_west, row_step, row_up}
 use borrow.Author.Rules.{rules}
 use Rattle.sums_fill.proofs.fill_row.Lts as lts
 use Rattle.sums_fill.proofs.fill_row.Reads as reads

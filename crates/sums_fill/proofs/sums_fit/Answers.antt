@@ -9,7 +9,6 @@ use borrow.Author.Tests.{le-leb, lt-leb}
 use Rattle.lists.proofs.Sums.{times_le}
 use Rattle.sums.specs.Sums.{sums_fit, sums_words}
 use Rattle.sums_fill.proofs.Filling.{all_rows}
-use borrow.Author.Rules.{rules}
 use Rattle.sums_fill.proofs.sums_fit.Goals as goal
 
 -- a length that holds r words and then s

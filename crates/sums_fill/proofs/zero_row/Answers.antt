@@ -1,8 +1,8 @@
 -- `sums_fill::zero_row`. Invariant: the first k words are 0, the others as they were.
 use mathlib.Core.Path.{◌≡◌, refl, sym, ap, ◌∙◌}
-use Prim.Native.Nat.{ℕ, ◌-◌, ◌≤◌}
+use Prim.Native.Nat.{ℕ, ◌-◌}
 use native.Mathlib.Omega.{arith}
-use lib.ListN.{length, length-set}
+use lib.ListN.{length-set}
 use Rattle.lists.specs.Front.{over}
 use Rattle.lists.proofs.Fronts.{over_none, over_step}
 use borrow.Author.Rules.{rules}

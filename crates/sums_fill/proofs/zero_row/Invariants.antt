@@ -1,11 +1,8 @@
 -- `sums_fill::zero_row`. Invariant: the first k words are 0, the others as they were.
-use mathlib.Core.Path.{◌≡◌, refl, sym, ap, ◌∙◌}
-use Prim.Native.Nat.{ℕ, ◌-◌, ◌≤◌}
-use native.Mathlib.Omega.{arith}
-use lib.ListN.{length, length-set}
+use mathlib.Core.Path.{◌≡◌}
+use Prim.Native.Nat.{◌-◌, ◌≤◌}
+use lib.ListN.{length}
 use Rattle.lists.specs.Front.{over}
-use Rattle.lists.proofs.Fronts.{over_none, over_step}
-use borrow.Author.Rules.{rules}
 use Rattle.sums_fill.proofs.zero_row.Given as goal
 
 abbrev pub invariant-loop-k : goal.invariant-loop-k

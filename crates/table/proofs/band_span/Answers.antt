@@ -7,7 +7,6 @@ use Rattle.grid.specs.Grid.{closing}
 use Rattle.grid.specs.Map.{Map}
 use Rattle.sums.specs.State.{table_map}
 use Rattle.sums.proofs.Bands.{around_turn, around_inland, around_west, around_east}
-use borrow.Author.Rules.{rules}
 use Rattle.table.proofs.band_span.Lts as lts
 use Rattle.table.proofs.band_span.Reads as reads
 use Rattle.table.proofs.band_span.Tie as tie

@@ -6,7 +6,6 @@ use native.Mathlib.Omega.{arith}
 use lib.Dec.{leb}
 use borrow.Author.Tests.{le-leb, lt-leb}
 use Rattle.grid.specs.Grid.{closing}
-use borrow.Author.Rules.{rules}
 use Rattle.table.proofs.full_turn.Goals as goal
 
 halved : (w h : ℕ) → leb w (h + h + 1) ≡ leb (w / 2) h

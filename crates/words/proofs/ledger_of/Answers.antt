@@ -1,6 +1,5 @@
 -- By whether the words fit.
 use mathlib.Core.Path.{refl, sym, ap, ◌∙◌}
-use borrow.Author.Rules.{rules}
 use Rattle.ledger.specs.declared.Ledger.{Ledger}
 use Rattle.words.proofs.Places.{of_fitting, of_other}
 use Rattle.words.proofs.ledger_of.Goals as goal

@@ -2,7 +2,6 @@
 use mathlib.Core.Path.{◌≡◌}
 use mathlib.Core.Bool.{true}
 use native.Mathlib.Omega.{arith}
-use borrow.Author.Rules.{rules}
 use Rattle.words.specs.Words.{place_at, place_fits}
 use Rattle.words.proofs.Places.{fits_length, fits_place, km_fits, row_fits, col_fits}
 use Rattle.words.proofs.place_at.Lts as lts

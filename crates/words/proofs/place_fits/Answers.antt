@@ -1,6 +1,5 @@
 -- The three tests in turn.
 use mathlib.Core.Path.{sym, ◌∙◌}
-use borrow.Author.Rules.{rules}
 use Rattle.words.proofs.Places.{km_unfit, row_unfit, col_decides}
 use Rattle.words.proofs.place_fits.Goals as goal
 

@@ -1,14 +1,11 @@
 -- Invariant: the places before i are read.
-use Prim.Native.Nat.{◌-◌, ◌≤◌}
+use Prim.Native.Nat.{◌-◌}
 use mathlib.Core.Path.{◌≡◌, refl, sym, ap, ◌∙◌}
 use native.Mathlib.Omega.{arith}
 use lib.ListN.{length, length-set}
-use borrow.Author.Rules.{rules}
-use Rattle.lists.specs.Front.{over}
 use Rattle.lists.proofs.Fronts.{over_none, over_step}
 use Rattle.ledger.specs.declared.Ledger.{Ledger}
 use Rattle.ledger.specs.Ledger.{capacity}
-use Rattle.words.specs.Words.{word_at, place_at}
 use Rattle.words.proofs.Places.{fits_length, fresh_length, read_whole}
 use Rattle.words.proofs.read_ledger.Goals as goal
 

@@ -2,13 +2,10 @@
 use Prim.Native.Nat.{◌+◌, ◌-◌, ◌≤◌}
 use mathlib.Core.Path.{◌≡◌, sym, ◌∙◌}
 use native.Mathlib.Omega.{arith}
-use lib.ListN.{length, length-set}
-use borrow.Author.Rules.{rules}
-use Rattle.lists.specs.Front.{onto}
+use lib.ListN.{length-set}
 use Rattle.ledger.specs.Ledger.{capacity}
 use Rattle.ledger.proofs.Whole.{places_whole}
-use Rattle.words.specs.Words.{ledger_length}
-use Rattle.words.proofs.Places.{up_to, length_written, write_none, write_next, write_whole}
+use Rattle.words.proofs.Places.{length_written, write_none, write_next, write_whole}
 use Rattle.words.proofs.write_ledger.Goals as goal
 
 pub loop-i-init : goal.loop-i-init

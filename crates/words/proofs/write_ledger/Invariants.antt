@@ -1,14 +1,11 @@
 -- Invariant: the words of the places before i are written.
-use Prim.Native.Nat.{◌+◌, ◌-◌, ◌≤◌}
-use mathlib.Core.Path.{◌≡◌, sym, ◌∙◌}
-use native.Mathlib.Omega.{arith}
-use lib.ListN.{length, length-set}
-use borrow.Author.Rules.{rules}
+use Prim.Native.Nat.{◌-◌, ◌≤◌}
+use mathlib.Core.Path.{◌≡◌}
+use lib.ListN.{length}
 use Rattle.lists.specs.Front.{onto}
 use Rattle.ledger.specs.Ledger.{capacity}
-use Rattle.ledger.proofs.Whole.{places_whole}
 use Rattle.words.specs.Words.{ledger_length}
-use Rattle.words.proofs.Places.{up_to, length_written, write_none, write_next, write_whole}
+use Rattle.words.proofs.Places.{up_to}
 use Rattle.words.proofs.write_ledger.Given as goal
 
 abbrev pub invariant-loop-i : goal.invariant-loop-i

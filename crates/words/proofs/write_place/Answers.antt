@@ -1,7 +1,6 @@
 -- Four stores, each within the words.
 use native.Mathlib.Omega.{arith}
 use lib.ListN.{length-set}
-use borrow.Author.Rules.{rules}
 use Rattle.words.specs.Words.{entry_words}
 use Rattle.words.proofs.General.{set_four}
 use Rattle.words.proofs.write_place.Goals as goal

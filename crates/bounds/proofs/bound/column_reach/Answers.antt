@@ -1,6 +1,5 @@
 -- The greater of the two, by its test.
 use borrow.Author.Tests.{lt-ltb, le-ltb}
-use borrow.Author.Rules.{rules}
 use Rattle.lists.specs.Counted.{max}
 use Rattle.bounds.proofs.bound.column_reach.Goals as goal
 

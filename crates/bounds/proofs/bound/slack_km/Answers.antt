@@ -1,6 +1,5 @@
 -- The code is the definition, operation for operation; the probe is a cell of the block.
 use native.Mathlib.Omega.{arith}
-use borrow.Author.Rules.{rules}
 use Rattle.grid.specs.Map.{cosine_at}
 use Rattle.bounds.specs.Bound.{slack_km}
 use Rattle.blocks.proofs.Tiles.{probe_held}

@@ -3,7 +3,6 @@ use native.Mathlib.Omega.{arith}
 use Rattle.blocks.proofs.Tiles.{probe_held}
 use Rattle.bounds.specs.State.{wide_kernel}
 use Rattle.bounds.proofs.Shaped.{wide_sheet}
-use borrow.Author.Rules.{rules}
 use Rattle.bounds.proofs.bound.wide_kernel.Goals as goal
 
 pub build-requires : goal.build-requires

@@ -1,5 +1,4 @@
 -- The radius widened by the slack.
-use borrow.Author.Rules.{rules}
 use Rattle.bounds.specs.Bound.{wide_km}
 use Rattle.bounds.proofs.bound.wide_km.Goals as goal
 

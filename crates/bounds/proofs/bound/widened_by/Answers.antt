@@ -1,5 +1,4 @@
 -- Each way out by its test.
-use borrow.Author.Rules.{rules}
 use Rattle.bounds.specs.Bound.{widened_by}
 use Rattle.bounds.proofs.bound.widened_by.Goals as goal
 

@@ -5,7 +5,6 @@ use Rattle.grid.specs.declared.Cell.{Cell}
 use Rattle.grid.specs.Grid.{before}
 use borrow.Author.Tests.{lt-ltb, le-ltb}
 use Rattle.candidates.specs.Candidate.{better, centre_of}
-use borrow.Author.Rules.{rules}
 use Rattle.candidates.proofs.compare.better.Lts as lts
 use Rattle.candidates.proofs.compare.better.Reads as reads
 use Rattle.candidates.proofs.compare.better.Tie as tie

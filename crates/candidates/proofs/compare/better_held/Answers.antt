@@ -1,6 +1,5 @@
 -- `candidates::compare::better_held`: a case for each way of holding.
 use Rattle.candidates.specs.Candidate.{better_held}
-use borrow.Author.Rules.{rules}
 use Rattle.candidates.proofs.compare.better_held.Goals as goal
 
 pub returns-in-Nobody : goal.returns-in-Nobody

@@ -1,6 +1,5 @@
 -- `candidates::compare::prunes`: a case for each way of holding.
 use Rattle.candidates.specs.Candidate.{prunes}
-use borrow.Author.Rules.{rules}
 use Rattle.candidates.proofs.compare.prunes.Goals as goal
 
 pub returns-in-Nobody : goal.returns-in-Nobody

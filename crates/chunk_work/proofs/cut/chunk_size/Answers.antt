@@ -2,7 +2,6 @@
 use native.Mathlib.Omega.{arith}
 use Rattle.lists.specs.Counted.{div_ceil}
 use Rattle.chunk_work.proofs.Workers.{workers_few}
-use borrow.Author.Rules.{rules}
 use Rattle.chunk_work.proofs.cut.chunk_size.Goals as goal
 
 pub overflow_sub-result : goal.overflow_sub-result

@@ -1,5 +1,4 @@
 -- `chunk_work::kept::same_kernel`: the row, then the radius.
-use borrow.Author.Rules.{rules}
 use Rattle.chunk_work.proofs.kept.same_kernel.Goals as goal
 
 pub returns-then-same_row : goal.returns-then-same_row

@@ -1,5 +1,4 @@
 -- `chunk_work::work::asks`: a survivor by the radii, no other.
-use borrow.Author.Rules.{rules}
 use Rattle.chunk_work.proofs.work.asks.Goals as goal
 
 pub returns-then-survives : goal.returns-then-survives

@@ -8,7 +8,6 @@ use Rattle.candidates.specs.Candidate.{better_held}
 use Rattle.tally.specs.declared.SearchStats.{SearchStats}
 use Rattle.tally.specs.Counts.{stats, tally, plus}
 use Rattle.chunk_work.proofs.Added.{plus_light, added_light, one_few, wide_few, exact_few, evaluated_is}
-use borrow.Author.Rules.{rules}
 use Rattle.chunk_work.proofs.work.evaluated.Lts as lts
 use Rattle.chunk_work.proofs.work.evaluated.Reads as reads
 use Rattle.chunk_work.proofs.work.evaluated.Tie as tie

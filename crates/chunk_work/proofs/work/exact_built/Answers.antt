@@ -1,6 +1,5 @@
 -- `chunk_work::work::exact_built`: the rows compared.
 use Rattle.chunk_work.specs.Work.{exact_built}
-use borrow.Author.Rules.{rules}
 use Rattle.chunk_work.proofs.work.exact_built.Goals as goal
 
 pub returns : goal.returns

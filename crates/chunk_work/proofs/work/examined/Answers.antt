@@ -1,5 +1,4 @@
 -- `chunk_work::work::examined`: the two ways.
-use borrow.Author.Rules.{rules}
 use Rattle.chunk_work.proofs.work.examined.Goals as goal
 
 pub returns-then-survives : goal.returns-then-survives

@@ -2,7 +2,6 @@
 use native.Mathlib.Omega.{arith}
 use Rattle.chunk_work.specs.State.{pruned_work}
 use Rattle.chunk_work.proofs.Added.{plus_light, added_light, wide_few}
-use borrow.Author.Rules.{rules}
 use Rattle.chunk_work.proofs.work.pruned.Goals as goal
 
 pub plus-tally-requires : goal.plus-tally-requires

@@ -1,6 +1,5 @@
 -- `chunk_work::work::settled`: 1 for a single cell, otherwise 0.
 use Rattle.lists.specs.Counted.{one}
-use borrow.Author.Rules.{rules}
 use Rattle.chunk_work.proofs.work.settled.Goals as goal
 
 pub returns-then-is_cell : goal.returns-then-is_cell

@@ -1,5 +1,4 @@
 -- `chunk_work::work::survives`: the test of the bound, turned round.
-use borrow.Author.Rules.{rules}
 use Rattle.chunk_work.proofs.work.survives.Goals as goal
 
 pub returns-then-prunes : goal.returns-then-prunes

@@ -1,6 +1,5 @@
 -- `chunk_work::work::wide_built`: row and radius compared.
 use Rattle.chunk_work.specs.Work.{wide_built}
-use borrow.Author.Rules.{rules}
 use Rattle.chunk_work.proofs.work.wide_built.Goals as goal
 
 pub returns : goal.returns

@@ -1,6 +1,6 @@
 -- `circle::call::circle`: refused with nothing written, or accepted, filled, built and summed.
 use mathlib.Core.Path.{◌≡◌, sym, ◌∙◌}
-use Rattle.grid.specs.Map.{Map, lent_map}
+use Rattle.grid.specs.Map.{lent_map}
 use Rattle.grid.specs.Answer.{first_no}
 use Rattle.grid.proofs.Answers.{PassedCall}
 use Rattle.sums_fill.proofs.Tables.{bare_filled}
@@ -9,7 +9,6 @@ use Rattle.grid.proofs.Radii.{left_radius, left_refusal}
 use Rattle.circle_rules.proofs.Calls.{circle_passed, circle_refused, circle_answered}
 use Rattle.kernel.proofs.Placing.{rows_placed, rows_people}
 use Rattle.circle.proofs.Accepted.{to_fill, to_build, to_sum, summed_up}
-use borrow.Author.Rules.{rules}
 use Rattle.circle.proofs.call.circle.Goals as goal
 use Rattle.circle.proofs.call.circle.Goals.{In-Radius}
 

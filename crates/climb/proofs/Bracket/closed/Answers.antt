@@ -1,6 +1,5 @@
 -- `climb::Bracket::closed`: each test by the bracket's kind.
 use Rattle.climb.specs.State.{bracket_closed}
-use borrow.Author.Rules.{rules}
 use Rattle.climb.proofs.Bracket.closed.Goals as goal
 
 pub returns-then-self : goal.returns-then-self

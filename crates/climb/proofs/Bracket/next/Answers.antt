@@ -1,6 +1,5 @@
 -- `climb::Bracket::next`: each way out by what was tested.
 use native.Mathlib.Omega.{arith}
-use borrow.Author.Rules.{rules}
 use Rattle.climb.specs.Climb.{last_radius}
 use Rattle.climb.proofs.NextRadii.{next_fits, next_reached, next_bisected, next_climbed}
 use Rattle.climb.proofs.Bracket.next.Goals as goal

@@ -1,6 +1,5 @@
 -- `climb::Bracket::radius`: the middle, or the next radius of the climb.
 use Rattle.climb.specs.State.{next_radius}
-use borrow.Author.Rules.{rules}
 use Rattle.climb.proofs.Bracket.radius.Goals as goal
 
 pub returns-then-self : goal.returns-then-self

@@ -1,6 +1,5 @@
 -- `climb::next::last_radius`: the ceiling is above 0.
 use native.Mathlib.Omega.{arith}
-use borrow.Author.Rules.{rules}
 use Rattle.grid.proofs.Body.{ceiling_least}
 use Rattle.climb.specs.Climb.{last_radius}
 use Rattle.climb.proofs.next.last_radius.Goals as goal

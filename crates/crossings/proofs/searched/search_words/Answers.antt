@@ -1,7 +1,6 @@
 -- The ten words in order.
 use mathlib.Core.Path.{refl}
 use Rattle.crossings.specs.Calls.{search_words}
-use borrow.Author.Rules.{rules}
 use Rattle.crossings.proofs.searched.search_words.Goals as goal
 
 pub returns : goal.returns

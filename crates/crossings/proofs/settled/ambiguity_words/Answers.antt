@@ -1,6 +1,5 @@
 -- By its two cases.
 use Rattle.crossings.specs.Smallest.{ambiguity_words}
-use borrow.Author.Rules.{rules}
 use Rattle.crossings.proofs.settled.ambiguity_words.Goals as goal
 
 pub returns-in-Radii : goal.returns-in-Radii

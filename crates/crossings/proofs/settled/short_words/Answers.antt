@@ -1,6 +1,5 @@
 -- By its two cases.
 use Rattle.crossings.specs.Smallest.{short_words}
-use borrow.Author.Rules.{rules}
 use Rattle.crossings.proofs.settled.short_words.Goals as goal
 
 pub returns-in-Witness : goal.returns-in-Witness

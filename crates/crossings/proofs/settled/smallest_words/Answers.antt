@@ -1,6 +1,5 @@
 -- The nineteen words in order.
 use Rattle.crossings.proofs.SmallestCrossings.{words_laid}
-use borrow.Author.Rules.{rules}
 use Rattle.crossings.proofs.settled.smallest_words.Goals as goal
 
 pub returns : goal.returns

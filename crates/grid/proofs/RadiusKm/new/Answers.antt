@@ -1,5 +1,4 @@
 -- By the comparison with the grid's ceiling.
-use borrow.Author.Rules.{rules}
 use borrow.Author.Tests.{le-leb, lt-leb}
 use Rattle.grid.specs.Grid.{radius_found}
 use Rattle.grid.proofs.RadiusKm.new.Goals as goal

@@ -1,6 +1,5 @@
 -- The lesser of the quotient and half a turn.
 use Rattle.grid.specs.Grid.{angle_of}
-use borrow.Author.Rules.{rules}
 use Rattle.grid.proofs.places.angle_of.Goals as goal
 
 pub returns : goal.returns

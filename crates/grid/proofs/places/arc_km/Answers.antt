@@ -1,6 +1,5 @@
 -- The code is the definition, the radius by its contract.
 use Rattle.grid.specs.Grid.{arc_km}
-use borrow.Author.Rules.{rules}
 use Rattle.grid.proofs.places.arc_km.Goals as goal
 
 pub returns : goal.returns

@@ -3,7 +3,6 @@ use mathlib.Core.Path.{refl}
 use native.Mathlib.Omega.{arith}
 use Rattle.lists.proofs.Sums.{times_le}
 use Rattle.grid.specs.Grid.{cells}
-use borrow.Author.Rules.{rules}
 use Rattle.grid.proofs.places.cells.Goals as goal
 
 pub overflow_mul-result : goal.overflow_mul-result

@@ -4,7 +4,6 @@ use native.Mathlib.Omega.{arith}
 use Rattle.grid.specs.Grid.{closing}
 use Rattle.grid.specs.Map.{sheet_index}
 use Rattle.grid.proofs.Index.{place_parts}
-use borrow.Author.Rules.{rules}
 use Rattle.grid.proofs.places.sheet_index.Goals as goal
 
 pub overflow_mul-result : goal.overflow_mul-result

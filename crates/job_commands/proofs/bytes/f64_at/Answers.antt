@@ -2,7 +2,6 @@
 use mathlib.Core.Path.{ap, ◌∙◌}
 use lib.Ieee.{binary64, of_bits}
 use Rattle.job_commands.specs.Command.{float}
-use borrow.Author.Rules.{rules}
 use Rattle.job_commands.proofs.bytes.f64_at.Goals as goal
 
 pub returns : goal.returns

@@ -1,7 +1,6 @@
 -- A number of eight bytes by its halves.
 use native.Mathlib.Omega.{arith}
 use Rattle.job_commands.proofs.Numbers.{number_eight}
-use borrow.Author.Rules.{rules}
 use Rattle.job_commands.proofs.bytes.u64_at.Goals as goal
 
 pub returns : goal.returns

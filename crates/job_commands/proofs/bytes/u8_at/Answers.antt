@@ -1,7 +1,6 @@
 -- A number of one byte is the byte.
 use mathlib.Core.Path.{sym}
 use Rattle.job_commands.proofs.Numbers.{number_one}
-use borrow.Author.Rules.{rules}
 use Rattle.job_commands.proofs.bytes.u8_at.Goals as goal
 
 pub returns : goal.returns

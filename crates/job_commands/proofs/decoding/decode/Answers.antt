@@ -2,7 +2,6 @@
 use mathlib.Core.Path.{◌∙◌, ap}
 use Rattle.job_commands.proofs.Operands.{decode_letter, decode_none}
 use Rattle.job_commands.specs.State.{decoded_in}
-use borrow.Author.Rules.{rules}
 use Rattle.job_commands.proofs.decoding.decode.Goals as goal
 
 pub returns-then-at-bytes : goal.returns-then-at-bytes

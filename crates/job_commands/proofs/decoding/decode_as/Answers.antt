@@ -2,7 +2,6 @@
 use borrow.Author.Tests.{ne_eqb}
 use Rattle.job_commands.specs.Command.{decode_as}
 use Rattle.job_commands.specs.State.{decoded_in}
-use borrow.Author.Rules.{rules}
 use Rattle.job_commands.proofs.decoding.decode_as.Goals as goal
 
 pub returns-then-letter-eq71 : goal.returns-then-letter-eq71

@@ -1,7 +1,6 @@
 -- The grid's five operands at their places.
 use Rattle.job_commands.proofs.Numbers.{number_here, number_drop, float_drop}
 use Rattle.job_commands.specs.Command.{grid_read}
-use borrow.Author.Rules.{rules}
 use Rattle.job_commands.proofs.decoding.grid_at.Goals as goal
 
 pub returns : goal.returns

@@ -3,7 +3,6 @@ use mathlib.Core.Path.{ap}
 use Rattle.job_commands.proofs.Operands.{operands_cut, operands_read}
 use Rattle.job_commands.specs.declared.Command.TheVariants.{SetGrid}
 use Rattle.job_commands.specs.Command.{set_grid_of}
-use borrow.Author.Rules.{rules}
 use Rattle.job_commands.proofs.decoding.read_grid.Goals as goal
 
 pub returns-then-bytes-from-lt26 : goal.returns-then-bytes-from-lt26

@@ -2,7 +2,6 @@
 use Rattle.job_commands.proofs.Numbers.{number_here, float_drop}
 use Rattle.job_commands.proofs.Operands.{operands_cut, operands_read}
 use Rattle.job_commands.specs.Command.{least_of}
-use borrow.Author.Rules.{rules}
 use Rattle.job_commands.proofs.decoding.read_least.Goals as goal
 
 pub returns-then-bytes-from-lt10 : goal.returns-then-bytes-from-lt10

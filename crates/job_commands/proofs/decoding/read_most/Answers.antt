@@ -2,7 +2,6 @@
 use Rattle.job_commands.proofs.Numbers.{number_here, number_drop}
 use Rattle.job_commands.proofs.Operands.{operands_cut, operands_read}
 use Rattle.job_commands.specs.Command.{most_of}
-use borrow.Author.Rules.{rules}
 use Rattle.job_commands.proofs.decoding.read_most.Goals as goal
 
 pub returns-then-bytes-from-lt4 : goal.returns-then-bytes-from-lt4

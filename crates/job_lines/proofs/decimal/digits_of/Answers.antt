@@ -2,7 +2,7 @@
 use borrow.Author.Rules.{rules}
 use native.Mathlib.Omega.{arith}
 use mathlib.Core.Path.{refl}
-use Rattle.job_lines.proofs.Decimals.{Written, none_written, place_left, more_written, all_written}
+use Rattle.job_lines.proofs.Decimals.{none_written, place_left, more_written, all_written}
 use Rattle.job_lines.proofs.decimal.digits_of.Goals as goal
 
 pub loop-rest-init : goal.loop-rest-init

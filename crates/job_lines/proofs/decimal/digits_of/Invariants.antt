@@ -1,8 +1,5 @@
 -- The digits are written from the last to the first.
-use borrow.Author.Rules.{rules}
-use native.Mathlib.Omega.{arith}
-use mathlib.Core.Path.{refl}
-use Rattle.job_lines.proofs.Decimals.{Written, none_written, place_left, more_written, all_written}
+use Rattle.job_lines.proofs.Decimals.{Written}
 use Rattle.job_lines.proofs.decimal.digits_of.Given as goal
 
 abbrev pub invariant-loop-rest : goal.invariant-loop-rest

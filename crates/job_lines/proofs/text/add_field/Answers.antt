@@ -2,7 +2,6 @@
 use native.Mathlib.Omega.{arith}
 use Rattle.job_lines.proofs.Texts.{len_longer, digits_from, field_longer}
 use Rattle.job_lines.proofs.Whole.{digits_whole}
-use borrow.Author.Rules.{rules}
 use Rattle.job_lines.proofs.text.add_field.Goals as goal
 
 pub slice_bounds-append-count : goal.slice_bounds-append-count

@@ -1,12 +1,7 @@
 -- Fields behind fields.
-use borrow.Author.Rules.{rules}
-use Prim.Native.Nat.{◌+◌, ◌-◌, ◌*◌, ◌≤◌}
+use Prim.Native.Nat.{◌-◌}
 use native.Mathlib.Omega.{arith}
-use mathlib.Core.Path.{◌≡◌}
-use lib.ListN.{length, take}
 use Rattle.job_lines.proofs.Texts.{fields_none, fields_len, fields_next, fields_all}
-use Rattle.job_lines.specs.State.{line_room, longer}
-use Rattle.job_lines.specs.Line.{longest_field, fields}
 use Rattle.job_lines.proofs.text.add_fields.Goals as goal
 
 pub loop-i-init : goal.loop-i-init

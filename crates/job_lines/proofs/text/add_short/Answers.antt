@@ -1,6 +1,5 @@
 -- The witness, or two dashes.
 use Rattle.job_lines.specs.Line.{short_fields}
-use borrow.Author.Rules.{rules}
 use Rattle.job_lines.proofs.text.add_short.Goals as goal
 
 pub returns-in-Witness : goal.returns-in-Witness

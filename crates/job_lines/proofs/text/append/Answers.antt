@@ -1,12 +1,11 @@
 -- Byte behind byte.
-use borrow.Author.Rules.{rules}
-use Prim.Native.Nat.{◌+◌, ◌-◌, ◌≤◌}
+use Prim.Native.Nat.{◌-◌}
 use native.Mathlib.Omega.{arith}
-use mathlib.Core.Path.{◌≡◌, refl, ◌∙◌}
-use lib.ListN.{length, take, length-set}
+use mathlib.Core.Path.{refl, ◌∙◌}
+use lib.ListN.{length-set}
 use Rattle.job_lines.proofs.Texts.{len_so_far, longer_next, longer_all}
 use Rattle.job_lines.proofs.Whole.{line_whole}
-use Rattle.job_lines.specs.State.{line_room, with_byte, longer}
+use Rattle.job_lines.specs.State.{with_byte, longer}
 use Rattle.job_lines.proofs.text.append.Goals as goal
 
 pub loop-i-init : goal.loop-i-init

@@ -1,12 +1,8 @@
 -- Byte behind byte.
-use borrow.Author.Rules.{rules}
 use Prim.Native.Nat.{◌+◌, ◌-◌, ◌≤◌}
-use native.Mathlib.Omega.{arith}
-use mathlib.Core.Path.{◌≡◌, refl, ◌∙◌}
-use lib.ListN.{length, take, length-set}
-use Rattle.job_lines.proofs.Texts.{len_so_far, longer_next, longer_all}
-use Rattle.job_lines.proofs.Whole.{line_whole}
-use Rattle.job_lines.specs.State.{line_room, with_byte, longer}
+use mathlib.Core.Path.{◌≡◌}
+use lib.ListN.{length, take}
+use Rattle.job_lines.specs.State.{line_room, longer}
 use Rattle.job_lines.proofs.text.append.Given as goal
 
 abbrev pub invariant-loop-i : goal.invariant-loop-i

@@ -8,7 +8,6 @@ use Rattle.job_lines.proofs.Texts.{len_longer, line_then}
 use Rattle.job_lines.specs.declared.Line.{Line}
 use Rattle.job_lines.specs.Line.{fields}
 use Rattle.job_lines.specs.State.{line_of}
-use borrow.Author.Rules.{rules}
 use Rattle.job_lines.proofs.text.begin_line.Goals as goal
 
 no_bytes : (l : Line) → l ≡ line_of [] → l.len ≡ 0

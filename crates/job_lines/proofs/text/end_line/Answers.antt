@@ -1,5 +1,4 @@
 -- One byte more.
-use borrow.Author.Rules.{rules}
 use Rattle.job_lines.proofs.text.end_line.Goals as goal
 
 pub returns : goal.returns

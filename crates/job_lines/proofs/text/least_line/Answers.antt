@@ -5,7 +5,6 @@ use Rattle.job_lines.proofs.Texts.{len_longer, begun_len, line_four}
 use Prim.Native.Nat.{◌+◌, ◌*◌, ◌≤◌}
 use mathlib.Core.List.{[], ◌∷◌}
 use Rattle.job_lines.specs.Line.{longest_field, least_word, newline, least_line}
-use borrow.Author.Rules.{rules}
 use Rattle.job_lines.proofs.text.least_line.Lts as lts
 use Rattle.job_lines.proofs.text.least_line.Reads as reads
 use Rattle.job_lines.proofs.text.least_line.Tie as tie

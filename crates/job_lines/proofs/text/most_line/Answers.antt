@@ -3,7 +3,6 @@ use native.Mathlib.Omega.{arith}
 use Rattle.job_lines.proofs.Lengths.{length_most}
 use Rattle.job_lines.proofs.Texts.{begun_len, line_then}
 use Rattle.job_lines.specs.Line.{most_word, newline, most_line, most_fields}
-use borrow.Author.Rules.{rules}
 use Rattle.job_lines.proofs.text.most_line.Goals as goal
 
 pub end_line-requires : goal.end_line-requires

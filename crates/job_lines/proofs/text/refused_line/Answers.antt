@@ -4,7 +4,6 @@ use native.Mathlib.Omega.{arith}
 use Rattle.job_lines.proofs.Lengths.{length_refused}
 use Rattle.job_lines.proofs.Texts.{begun_len, line_then}
 use Rattle.job_lines.specs.Line.{refused_word, newline, refused_line}
-use borrow.Author.Rules.{rules}
 use Rattle.job_lines.proofs.text.refused_line.Goals as goal
 
 pub end_line-requires : goal.end_line-requires

@@ -4,7 +4,6 @@ use native.Mathlib.Omega.{arith}
 use Rattle.lists.proofs.Sums.{times_le}
 use Rattle.job_sizes.proofs.Held.{pair_beyond, angle_within, angle_beyond}
 use Rattle.job_sizes.specs.Sizes.{job_angles}
-use borrow.Author.Rules.{rules}
 use Rattle.job_sizes.proofs.arrays.angle_place.Lts as lts
 use Rattle.job_sizes.proofs.arrays.angle_place.Reads as reads
 use Rattle.job_sizes.proofs.arrays.angle_place.Tie as tie

@@ -4,7 +4,6 @@ use native.Mathlib.Omega.{arith}
 use Rattle.lists.proofs.Sums.{times_le}
 use Rattle.job_sizes.proofs.Held.{pairs_beyond, angles_within, angles_beyond}
 use Rattle.job_sizes.specs.Sizes.{job_angles}
-use borrow.Author.Rules.{rules}
 use Rattle.job_sizes.proofs.arrays.angle_places.Goals as goal
 
 pub overflow_mul-pairs : goal.overflow_mul-pairs

@@ -1,7 +1,6 @@
 -- Row × width + column, in 64 bits.
 use native.Mathlib.Omega.{arith}
 use Rattle.lists.proofs.Sums.{times_le}
-use borrow.Author.Rules.{rules}
 use Rattle.job_sizes.proofs.arrays.count_place.Goals as goal
 
 pub overflow_mul-result : goal.overflow_mul-result

@@ -1,6 +1,5 @@
 -- The three numbers, each by its own function.
 use Rattle.job_sizes.specs.Sizes.{places_of}
-use borrow.Author.Rules.{rules}
 use Rattle.job_sizes.proofs.arrays.places_of.Goals as goal
 
 pub returns : goal.returns

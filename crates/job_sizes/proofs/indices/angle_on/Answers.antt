@@ -1,7 +1,6 @@
 -- Each way out by what the grid's constructor gave for both rows, and by the offset.
 use mathlib.Core.Path.{sym, ◌∙◌}
 use Rattle.job_sizes.proofs.Found.{no_centre, no_other_row, past_closing, angle_made}
-use borrow.Author.Rules.{rules}
 use Rattle.job_sizes.proofs.indices.angle_on.Goals as goal
 
 pub returns-then-closing-offset : goal.returns-then-closing-offset

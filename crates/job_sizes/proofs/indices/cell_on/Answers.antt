@@ -1,7 +1,6 @@
 -- Each way out by what the grid's constructors gave.
 use mathlib.Core.Path.{sym, ◌∙◌}
 use Rattle.job_sizes.proofs.Found.{no_row, no_column, cell_made}
-use borrow.Author.Rules.{rules}
 use Rattle.job_sizes.proofs.indices.cell_on.Goals as goal
 
 pub returns-in-Off : goal.returns-in-Off

@@ -2,7 +2,6 @@
 use mathlib.Core.Path.{sym}
 use native.Mathlib.Omega.{arith}
 use lib.Seq.{set_out}
-use borrow.Author.Rules.{rules}
 use Rattle.job_world.proofs.state.put_cosine.Goals as goal
 
 pub returns-then-place-ge-ROWS : goal.returns-then-place-ge-ROWS

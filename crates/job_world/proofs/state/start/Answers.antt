@@ -1,7 +1,6 @@
 -- The state before any command.
 use Rattle.floats.proofs.Literals.{literal_0}
 use Rattle.job_world.specs.State.{no_grid, start_state}
-use borrow.Author.Rules.{rules}
 use Rattle.job_world.proofs.state.start.Goals as goal
 
 pub returns : goal.returns

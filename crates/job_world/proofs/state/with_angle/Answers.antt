@@ -1,5 +1,4 @@
 -- One place of the angles.
-use borrow.Author.Rules.{rules}
 use Prim.Native.Nat.{ℕ}
 use mathlib.Core.Path.{◌≡◌, ◌∙◌, ap}
 use lib.ListN.{set}

@@ -1,6 +1,5 @@
 -- One place of the cosines.
 use Rattle.job_world.specs.State.{cosine_state}
-use borrow.Author.Rules.{rules}
 use Rattle.job_world.proofs.state.with_cosine.Goals as goal
 
 pub returns : goal.returns

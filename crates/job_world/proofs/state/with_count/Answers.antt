@@ -1,6 +1,5 @@
 -- One place of the counts.
 use Rattle.job_world.specs.State.{count_state}
-use borrow.Author.Rules.{rules}
 use Rattle.job_world.proofs.state.with_count.Goals as goal
 
 pub returns : goal.returns

@@ -1,6 +1,5 @@
 -- Nothing set, and no entries.
 use Rattle.job_world.specs.State.{grid_state}
-use borrow.Author.Rules.{rules}
 use Rattle.job_world.proofs.state.with_grid.Goals as goal
 
 pub returns : goal.returns

@@ -4,7 +4,6 @@ use mathlib.Core.Bool.{true, false}
 use Rattle.grid.specs.Map.{sheet_of}
 use Rattle.reach.proofs.Reaches.{sheet_high, sheet_beyond}
 use Rattle.kernel.proofs.Built.{zero_test, built_empty, built_outline, built_walked}
-use borrow.Author.Rules.{rules}
 use Rattle.kernel.proofs.band.build.Goals as goal
 
 pub returns-then-km : goal.returns-then-km

@@ -6,11 +6,9 @@ use lib.Dec.{eqb}
 use lib.ListN.{length, get_or, length-set}
 use Rattle.lists.proofs.Bools.{cond_case}
 use Rattle.reach.specs.Reach.{row_places}
-use Rattle.reach.specs.State.{Filled}
 use Rattle.kernel.specs.State.{run_in}
 use Rattle.reach.proofs.Walks.{filled_none, filled_before}
 use Rattle.kernel.proofs.RowRuns.{run_next, run_onward}
-use borrow.Author.Rules.{rules}
 use Rattle.kernel.proofs.runs.mark.Lts as lts
 use Rattle.kernel.proofs.runs.mark.Reads as reads
 use Rattle.kernel.proofs.runs.mark.Tie as tie

@@ -1,16 +1,10 @@
 -- `kernel::runs::mark`. Invariant: the runs of the rows from row on are marked, and the run of row is known where it is touched.
-use Prim.Native.Nat.{ℕ, ◌+◌, ◌-◌, ◌≤◌, ◌<◌}
-use mathlib.Core.Path.{◌≡◌, refl, sym, ◌∙◌}
-use native.Mathlib.Omega.{arith}
-use lib.Dec.{eqb}
-use lib.ListN.{length, get_or, length-set}
-use Rattle.lists.proofs.Bools.{cond_case}
+use Prim.Native.Nat.{◌-◌, ◌≤◌, ◌<◌}
+use mathlib.Core.Path.{◌≡◌}
+use lib.ListN.{length, get_or}
 use Rattle.reach.specs.Reach.{row_places}
 use Rattle.reach.specs.State.{Filled}
 use Rattle.kernel.specs.State.{run_in}
-use Rattle.reach.proofs.Walks.{filled_none, filled_before}
-use Rattle.kernel.proofs.RowRuns.{run_next, run_onward}
-use borrow.Author.Rules.{rules}
 use Rattle.kernel.proofs.runs.mark.Given as goal
 
 abbrev pub invariant-loop-row : goal.invariant-loop-row

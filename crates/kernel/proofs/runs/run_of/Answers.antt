@@ -1,6 +1,5 @@
 -- `kernel::runs::run_of`: the run below goes on, or another ends with the row.
 use borrow.Author.Tests.{eq-eqb, ne_eqb}
-use borrow.Author.Rules.{rules}
 use Rattle.kernel.proofs.runs.run_of.Goals as goal
 
 pub returns-then-below-here : goal.returns-then-below-here

@@ -5,7 +5,6 @@ use native.Mathlib.Omega.{arith}
 use Rattle.lists.specs.Counted.{sum_below}
 use Rattle.sums.specs.State.{table_map}
 use Rattle.kernel_sums.proofs.People.{reach_people, people_run, people_total, people_north, people_all}
-use borrow.Author.Rules.{rules}
 use Rattle.kernel_sums.proofs.band.circle_population.Lts as lts
 use Rattle.kernel_sums.proofs.band.circle_population.Reads as reads
 use Rattle.kernel_sums.proofs.band.circle_population.Tie as tie

@@ -1,11 +1,9 @@
 -- `kernel_sums::band::circle_population`. Invariant: the people are those of the rows above.
-use Prim.Native.Nat.{ℕ, ◌+◌, ◌-◌, ◌≤◌, ◌<◌}
-use mathlib.Core.Path.{◌≡◌, sym, ap, ◌∙◌}
-use native.Mathlib.Omega.{arith}
+use Prim.Native.Nat.{◌-◌, ◌≤◌}
+use mathlib.Core.Path.{◌≡◌}
 use Rattle.lists.specs.Counted.{sum_below}
 use Rattle.sums.specs.State.{table_map}
-use Rattle.kernel_sums.proofs.People.{reach_people, people_run, people_total, people_north, people_all}
-use borrow.Author.Rules.{rules}
+use Rattle.kernel_sums.proofs.People.{reach_people}
 use Rattle.kernel_sums.proofs.band.circle_population.Given as goal
 
 abbrev pub invariant-loop-row : goal.invariant-loop-row

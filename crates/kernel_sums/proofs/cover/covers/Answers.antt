@@ -1,16 +1,10 @@
 -- `kernel_sums::cover::covers`. Invariant: the kernel's reach is a full turn in every row so far.
-use Prim.Native.Nat.{◌-◌, ◌≤◌}
+use Prim.Native.Nat.{◌-◌}
 use mathlib.Core.Path.{◌≡◌, sym, ◌∙◌}
-use mathlib.Core.Bool.{true}
 use native.Mathlib.Omega.{arith}
-use lib.Dec.{ltb}
-use lib.ListN.{get_or}
-use Rattle.lists.specs.Counted.{all_below}
 use Rattle.lists.proofs.All.{all_none, all_more}
 use Rattle.grid.proofs.Sizes.{grid_sizes}
-use Rattle.reach.specs.Reach.{row_places}
 use Rattle.kernel.proofs.WholeGrid.{covers_yes, covers_no}
-use borrow.Author.Rules.{rules}
 use Rattle.kernel_sums.proofs.cover.covers.Goals as goal
 
 pub loop-r-init : goal.loop-r-init

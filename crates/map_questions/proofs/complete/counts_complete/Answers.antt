@@ -1,6 +1,5 @@
 -- The code is the definition.
 use Rattle.grid.specs.Questions.{counts_complete}
-use borrow.Author.Rules.{rules}
 use Rattle.map_questions.proofs.complete.counts_complete.Goals as goal
 
 pub returns : goal.returns

@@ -1,6 +1,5 @@
 -- Each way out by the law of quotients.
 use Rattle.map_questions.proofs.Products.{product_of_none, product_with_rest, product_by_quotient}
-use borrow.Author.Rules.{rules}
 use Rattle.map_questions.proofs.complete.is_product.Goals as goal
 
 pub returns-then-a-eq0 : goal.returns-then-a-eq0

@@ -1,11 +1,8 @@
 -- The angles by the quotient, then the cosines.
 use mathlib.Core.Path.{sym, ◌∙◌}
-use borrow.Author.Tests.{not-true, not-false}
 use native.Mathlib.Omega.{arith}
 use Rattle.lists.proofs.Sums.{times_le}
-use Rattle.grid.specs.Grid.{closing}
 use Rattle.grid.specs.Questions.{sheet_complete}
-use borrow.Author.Rules.{rules}
 use Rattle.map_questions.proofs.complete.sheet_complete.Goals as goal
 
 pub overflow_mul-height : goal.overflow_mul-height

@@ -1,17 +1,12 @@
 -- Invariant: the cosines before i are in range.
-use mathlib.Core.Path.{◌≡◌, sym, ◌∙◌}
+use mathlib.Core.Path.{◌≡◌}
 use mathlib.Core.Bool.{Bool, true, ◌&&◌}
 use mathlib.Core.List.{List}
 use Prim.Native.Nat.{ℕ, ◌-◌, ◌≤◌}
-use native.Mathlib.Omega.{arith}
 use lib.ListN.{get_or}
 use lib.Ieee.{Float, nan, lt, le}
-use borrow.Author.Rules.{rules}
 use Rattle.floats.specs.Binary.{whole}
 use Rattle.lists.specs.Counted.{all_below}
-use Rattle.lists.proofs.All.{all_none, all_more, all_fails}
-use Rattle.grid.specs.Map.{cosine_at}
-use Rattle.grid.specs.Questions.{every_row, cosine_in_range, cosines_in_range}
 use Rattle.map_questions.proofs.order.cosines_in_range.Given as goal
 
 abbrev pub ranged : List Float → ℕ → Bool

@@ -1,6 +1,5 @@
 -- The grid's refusal, question 4, or the sheet's refusal.
 use mathlib.Core.Path.{◌≡◌, sym, ◌∙◌}
-use borrow.Author.Rules.{rules}
 use Rattle.grid.specs.Answer.{first_no}
 use Rattle.grid.specs.Questions.{counts_complete, grid_questions, map_questions}
 use Rattle.grid.proofs.General.{said_no, said_yes}

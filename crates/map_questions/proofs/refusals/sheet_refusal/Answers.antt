@@ -1,5 +1,4 @@
 -- Each way out by its question, those before it being answered yes.
-use borrow.Author.Rules.{rules}
 use Rattle.grid.specs.Questions.{sheet_questions}
 use Rattle.grid.proofs.General.{said_no, said_yes}
 use Rattle.grid.proofs.Answers.{asked_yes, asked_no, asked_none}

@@ -1,7 +1,6 @@
 -- `most_populous::call::buffers_fit`: the sums, then each level buffer.
-use borrow.Author.Tests.{not-true, not-false, lt-leb, le-leb}
+use borrow.Author.Tests.{lt-leb, le-leb}
 use Rattle.most_populous.specs.Call.{buffers_fit}
-use borrow.Author.Rules.{rules}
 use Rattle.most_populous.proofs.call.buffers_fit.Goals as goal
 
 pub returns-then-not-sums_fit : goal.returns-then-not-sums_fit

@@ -1,5 +1,4 @@
 -- Refused by the first no, or put.
-use borrow.Author.Rules.{rules}
 use Rattle.put.specs.Call.{put_answer}
 use Rattle.grid.proofs.General.{no_number}
 use Rattle.put.proofs.Calls.{put_room, call_refused, call_done}

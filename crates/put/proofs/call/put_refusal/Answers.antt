@@ -2,7 +2,6 @@
 use mathlib.Core.Path.{◌≡◌}
 use mathlib.Core.Bool.{true, ◌&&◌}
 use native.Mathlib.Omega.{arith}
-use borrow.Author.Rules.{rules}
 use Rattle.grid.specs.Answer.{first_no}
 use Rattle.grid.specs.Questions.{grid_questions}
 use Rattle.grid.proofs.General.{said_no, said_yes, no_number}

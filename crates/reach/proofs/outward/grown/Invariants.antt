@@ -1,11 +1,8 @@
 -- `reach::outward::grown`. Invariant: the offset before n is within the angle, if it was tested.
 use Prim.Native.Nat.{◌-◌, ◌≤◌, ◌<◌}
-use mathlib.Core.Path.{◌≡◌, sym, ◌∙◌}
+use mathlib.Core.Path.{◌≡◌}
 use mathlib.Core.Bool.{true}
-use native.Mathlib.Nat.{add-sub_cancel}
-use native.Mathlib.Omega.{arith}
 use Rattle.reach.specs.State.{passes}
-use borrow.Author.Rules.{rules}
 use Rattle.reach.proofs.outward.grown.Given as goal
 
 abbrev pub invariant-loop-n : goal.invariant-loop-n

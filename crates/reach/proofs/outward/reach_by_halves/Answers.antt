@@ -1,7 +1,6 @@
 -- `reach::outward::reach_by_halves`. Invariant: the offset before low is within the angle and the one at high is not, if they were tested.
-use Prim.Native.Nat.{ℕ, ◌+◌, ◌-◌, ◌/◌, ◌≤◌, ◌<◌}
+use Prim.Native.Nat.{ℕ, ◌+◌, ◌-◌, ◌/◌, ◌<◌}
 use mathlib.Core.Path.{◌≡◌, sym, ap, ◌∙◌}
-use mathlib.Core.Bool.{true, false}
 use native.Mathlib.Nat.{add-sub_cancel}
 use native.Mathlib.Omega.{arith}
 use lib.ListN.{length}

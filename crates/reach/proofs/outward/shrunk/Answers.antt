@@ -1,9 +1,6 @@
 -- `reach::outward::shrunk`. Invariant: the offset at n is not within the angle, if it was tested.
-use Prim.Native.Nat.{◌≤◌, ◌<◌}
-use mathlib.Core.Path.{◌≡◌, sym, ◌∙◌}
-use mathlib.Core.Bool.{false}
+use mathlib.Core.Path.{sym, ◌∙◌}
 use native.Mathlib.Omega.{arith}
-use Rattle.reach.specs.State.{passes}
 use borrow.Author.Rules.{rules}
 use Rattle.reach.proofs.outward.shrunk.Goals as goal
 

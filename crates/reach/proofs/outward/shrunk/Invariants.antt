@@ -1,10 +1,8 @@
 -- `reach::outward::shrunk`. Invariant: the offset at n is not within the angle, if it was tested.
 use Prim.Native.Nat.{◌≤◌, ◌<◌}
-use mathlib.Core.Path.{◌≡◌, sym, ◌∙◌}
+use mathlib.Core.Path.{◌≡◌}
 use mathlib.Core.Bool.{false}
-use native.Mathlib.Omega.{arith}
 use Rattle.reach.specs.State.{passes}
-use borrow.Author.Rules.{rules}
 use Rattle.reach.proofs.outward.shrunk.Given as goal
 
 abbrev pub invariant-loop-n : goal.invariant-loop-n

@@ -1,13 +1,9 @@
 -- `reach::outward::walk_north`. Invariant: the rows from north up to the centre row are filled in.
-use Prim.Native.Nat.{◌-◌, ◌<◌}
-use mathlib.Core.Path.{◌≡◌, refl, sym, ◌∙◌}
-use native.Mathlib.Omega.{arith}
-use lib.ListN.{length, length-set}
+use Prim.Native.Nat.{◌-◌}
+use mathlib.Core.Path.{◌≡◌}
+use lib.ListN.{length}
 use Rattle.grid.specs.Map.{sheet_of}
 use Rattle.reach.specs.State.{Filled, reach_in}
-use Rattle.reach.proofs.Reaches.{sheet_high}
-use Rattle.reach.proofs.Walks.{filled_none, filled_before}
-use borrow.Author.Rules.{rules}
 use Rattle.reach.proofs.outward.walk_north.Given as goal
 
 abbrev pub invariant-loop-north : goal.invariant-loop-north

@@ -1,13 +1,10 @@
 -- `reach::outward::walk_south`. Invariant: the rows from the centre row up to end are filled in.
-use Prim.Native.Nat.{◌-◌, ◌≤◌, ◌<◌}
-use mathlib.Core.Path.{◌≡◌, refl, sym, ◌∙◌}
+use Prim.Native.Nat.{◌-◌, ◌<◌}
+use mathlib.Core.Path.{refl, sym, ◌∙◌}
 use native.Mathlib.Omega.{arith}
 use lib.ListN.{length, length-set}
-use Rattle.grid.specs.Map.{sheet_of}
-use Rattle.reach.specs.State.{Filled, reach_in}
 use Rattle.reach.proofs.Reaches.{sheet_high}
 use Rattle.reach.proofs.Walks.{filled_none, filled_after}
-use borrow.Author.Rules.{rules}
 use Rattle.reach.proofs.outward.walk_south.Goals as goal
 
 pub loop-end-init : goal.loop-end-init

@@ -1,13 +1,9 @@
 -- `reach::outward::walk_south`. Invariant: the rows from the centre row up to end are filled in.
-use Prim.Native.Nat.{◌-◌, ◌≤◌, ◌<◌}
-use mathlib.Core.Path.{◌≡◌, refl, sym, ◌∙◌}
-use native.Mathlib.Omega.{arith}
-use lib.ListN.{length, length-set}
+use Prim.Native.Nat.{◌-◌, ◌≤◌}
+use mathlib.Core.Path.{◌≡◌}
+use lib.ListN.{length}
 use Rattle.grid.specs.Map.{sheet_of}
 use Rattle.reach.specs.State.{Filled, reach_in}
-use Rattle.reach.proofs.Reaches.{sheet_high}
-use Rattle.reach.proofs.Walks.{filled_none, filled_after}
-use borrow.Author.Rules.{rules}
 use Rattle.reach.proofs.outward.walk_south.Given as goal
 
 abbrev pub invariant-loop-end : goal.invariant-loop-end

@@ -1,5 +1,4 @@
 -- The counts and the state by their own functions.
-use borrow.Author.Rules.{rules}
 use Rattle.run_state.proofs.probe.reused.Goals as goal
 
 pub returns : goal.returns

@@ -1,5 +1,4 @@
 -- Each way out by its test.
-use borrow.Author.Rules.{rules}
 use Rattle.probes.specs.State.{ambiguity_after}
 use Rattle.run_state.proofs.state.ambiguity_after.Goals as goal
 

@@ -1,5 +1,4 @@
 -- The counts and the candidate by their makers.
-use borrow.Author.Rules.{rules}
 use Rattle.candidates.specs.Candidate.{north_west}
 use Rattle.tally.specs.Counts.{no_stats}
 use Rattle.probes.specs.State.{run_begun}

@@ -1,5 +1,4 @@
 -- The code is the definition.
-use borrow.Author.Rules.{rules}
 use Rattle.probes.specs.State.{evaluated_more}
 use Rattle.run_state.proofs.state.evaluated_more.Goals as goal
 

@@ -1,5 +1,4 @@
 -- Each field from its own function.
-use borrow.Author.Rules.{rules}
 use Rattle.probes.specs.State.{noted}
 use Rattle.run_state.proofs.state.noted.Goals as goal
 

@@ -1,6 +1,5 @@
 -- The code is the definition.
 use mathlib.Core.Path.{refl}
-use borrow.Author.Rules.{rules}
 use Rattle.probes.specs.State.{reused_more}
 use Rattle.run_state.proofs.state.reused_more.Goals as goal
 

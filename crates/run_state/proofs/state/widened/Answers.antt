@@ -1,6 +1,5 @@
 -- Each case of the ambiguity.
 use native.Mathlib.Omega.{arith}
-use borrow.Author.Rules.{rules}
 use Rattle.probes.specs.State.{radii_of}
 use Rattle.probes.specs.Smallest.{widened}
 use Rattle.run_state.proofs.state.widened.Goals as goal

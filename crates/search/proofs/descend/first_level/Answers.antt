@@ -1,6 +1,5 @@
 -- `search::descend::first_level`: the tiles, then put in order.
 use Rattle.search.proofs.Descents.{first_tiles, first_takes, first_is}
-use borrow.Author.Rules.{rules}
 use Rattle.search.proofs.descend.first_level.Goals as goal
 
 pub tile-n-requires : goal.tile-n-requires

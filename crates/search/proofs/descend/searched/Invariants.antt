@@ -1,9 +1,6 @@
 -- `search::descend::searched`. Invariant: what is left of the levels, from the blocks in the first buffer, is the whole search.
 use Prim.Native.Nat.{◌+◌, ◌-◌}
-use mathlib.Core.Path.{◌∙◌}
-use native.Mathlib.Omega.{arith}
-use Rattle.search.proofs.Descents.{Descending, descend_start, descend_words, descend_sweeps, descend_light, descend_takes, descend_less, descend_next, descend_done}
-use borrow.Author.Rules.{rules}
+use Rattle.search.proofs.Descents.{Descending}
 use Rattle.search.proofs.descend.searched.Given as goal
 
 abbrev pub invariant-loop-live : goal.invariant-loop-live

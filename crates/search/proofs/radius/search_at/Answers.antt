@@ -1,7 +1,6 @@
 -- `search::radius::search_at`: nothing at radius 0, and otherwise what the levels find.
 use mathlib.Core.Path.{◌∙◌}
 use Rattle.search_rules.proofs.Search.{search_none, search_found}
-use borrow.Author.Rules.{rules}
 use Rattle.search.proofs.radius.search_at.Goals as goal
 
 pub returns-then-km-eq0 : goal.returns-then-km-eq0

@@ -1,5 +1,4 @@
 -- Each way out by its test.
-use borrow.Author.Rules.{rules}
 use borrow.Author.Tests.{eq-eqb, ne_eqb}
 use Rattle.sheet.specs.Judge.{angle_fits}
 use Rattle.floats.proofs.Literals.{literal_0}

@@ -1,5 +1,4 @@
 -- Each way out by its test.
-use borrow.Author.Rules.{rules}
 use borrow.Author.Tests.{lt-ltb, le-ltb}
 use Rattle.sheet.specs.Judge.{judge_feed}
 use Rattle.sheet.proofs.SheetJudge.feed.Goals as goal

@@ -6,7 +6,6 @@ use native.Mathlib.Omega.{arith}
 use lib.ListN.{length, take, drop, length-drop}
 use lib.Ieee.{Float, nan}
 use lib.Seq.{take-length, length-take-le}
-use borrow.Author.Rules.{rules}
 use Rattle.lists.specs.Lists.{fold}
 use Rattle.lists.proofs.Folds.{fold_more, fold_next}
 use Rattle.grid.specs.Grid.{closing}

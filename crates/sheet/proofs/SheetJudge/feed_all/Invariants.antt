@@ -1,18 +1,9 @@
 -- Invariant: the judge has been fed the angles before `at`.
-use Prim.Native.Nat.{ℕ, ◌+◌, ◌-◌, ◌≤◌, ◌<◌}
-use mathlib.Core.List.{List}
-use mathlib.Core.Path.{◌≡◌, refl, sym, ap, ◌∙◌}
-use native.Mathlib.Omega.{arith}
-use lib.ListN.{length, take, drop, length-drop}
-use lib.Ieee.{Float, nan}
-use lib.Seq.{take-length, length-take-le}
-use borrow.Author.Rules.{rules}
+use Prim.Native.Nat.{◌-◌, ◌≤◌}
+use mathlib.Core.Path.{◌≡◌}
+use lib.ListN.{length, take}
 use Rattle.lists.specs.Lists.{fold}
-use Rattle.lists.proofs.Folds.{fold_more, fold_next}
-use Rattle.grid.specs.Grid.{closing}
 use Rattle.sheet.specs.Judge.{judge_feed}
-use Rattle.sheet.proofs.Judging.{grid_kept}
-use Rattle.sheet.proofs.Runs.{ahead}
 use Rattle.sheet.proofs.SheetJudge.feed_all.Given as goal
 
 abbrev pub invariant-loop-at : goal.invariant-loop-at

@@ -1,5 +1,4 @@
 -- The run by its ends.
-use borrow.Author.Rules.{rules}
 use Rattle.sheet.proofs.Runs.{run_at_once}
 use Rattle.sheet.proofs.SheetJudge.feed_run.Goals as goal
 

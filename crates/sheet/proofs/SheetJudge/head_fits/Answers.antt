@@ -1,5 +1,4 @@
 -- Each way out by its test.
-use borrow.Author.Rules.{rules}
 use Rattle.sheet.specs.Judge.{head_fits}
 use Rattle.grid.proofs.General.{said_no, said_yes}
 use Rattle.sheet.proofs.SheetJudge.head_fits.Goals as goal

@@ -1,7 +1,6 @@
 -- Each way out by its test.
 use Prim.Native.Nat.{◌+◌}
 use native.Mathlib.Omega.{arith}
-use borrow.Author.Rules.{rules}
 use borrow.Author.Tests.{lt-ltb, le-ltb}
 use Rattle.sheet.specs.Judge.{next_row}
 use Rattle.sheet.proofs.SheetJudge.next_row.Goals as goal

@@ -1,5 +1,4 @@
 -- Each way out by its tests.
-use borrow.Author.Rules.{rules}
 use borrow.Author.Tests.{eq-eqb, ne_eqb, le-leb, lt-leb}
 use Rattle.sheet.specs.Judge.{row_fits}
 use Rattle.sheet.proofs.SheetJudge.row_fits.Goals as goal

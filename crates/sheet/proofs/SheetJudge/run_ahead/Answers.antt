@@ -1,5 +1,4 @@
 -- The three tests.
-use borrow.Author.Rules.{rules}
 use Rattle.sheet.specs.State.{run_ahead}
 use Rattle.sheet.proofs.SheetJudge.run_ahead.Goals as goal
 

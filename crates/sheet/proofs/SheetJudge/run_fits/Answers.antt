@@ -1,5 +1,4 @@
 -- Each way out by its tests.
-use borrow.Author.Rules.{rules}
 use Rattle.sheet.specs.State.{run_fits}
 use Rattle.grid.proofs.General.{said_no, said_yes}
 use Rattle.floats.proofs.Literals.{literal_0}

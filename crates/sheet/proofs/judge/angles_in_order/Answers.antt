@@ -5,7 +5,6 @@ use mathlib.Core.List.{List}
 use native.Mathlib.Omega.{arith}
 use lib.ListN.{length, take, drop}
 use lib.Ieee.{Float}
-use borrow.Author.Rules.{rules}
 use Rattle.lists.specs.Lists.{fold}
 use Rattle.sheet.specs.declared.SheetJudge.{SheetJudge}
 use Rattle.grid.specs.Grid.{closing}

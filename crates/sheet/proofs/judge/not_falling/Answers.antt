@@ -1,12 +1,11 @@
 -- Invariant: the loop has found whether no angle before k is below the one before it.
 use mathlib.Core.Path.{◌≡◌, sym, ap, ◌∙◌}
-use mathlib.Core.Bool.{Bool, ◌&&◌}
+use mathlib.Core.Bool.{◌&&◌}
 use mathlib.Core.List.{List}
 use Prim.Native.Nat.{ℕ, ◌+◌, ◌-◌, ◌≤◌}
 use native.Mathlib.Omega.{arith}
 use lib.ListN.{length, get_or}
 use lib.Ieee.{Float, nan, le}
-use borrow.Author.Rules.{rules}
 use Rattle.lists.specs.Counted.{all_below}
 use Rattle.lists.proofs.All.{all_none, all_plus_one}
 use Rattle.sheet.specs.State.{not_falling}

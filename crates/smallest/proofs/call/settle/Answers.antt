@@ -1,5 +1,4 @@
 -- `smallest::call::settle`: the total, the target and the slack, the run, and the answer from its end.
-use borrow.Author.Rules.{rules}
 use Rattle.smallest.proofs.Settling.{can_run, can_conclude, is_settled}
 use Rattle.smallest.proofs.call.settle.Goals as goal
 

@@ -1,6 +1,5 @@
 -- `smallest::call::smallest_refusal`: the questions of a map, that of the buffers, and the call's own.
 use mathlib.Core.Path.{◌≡◌, sym, ◌∙◌}
-use borrow.Author.Rules.{rules}
 use Rattle.grid.specs.Map.{lent_map}
 use Rattle.grid.specs.Answer.{first_no}
 use Rattle.grid.specs.Questions.{map_questions}

@@ -1,5 +1,4 @@
 -- The code is the definition, operation for operation.
-use borrow.Author.Rules.{rules}
 use Rattle.spacing.specs.Spacing.{extent_fits}
 use Rattle.spacing.proofs.side.extent_fits.Goals as goal
 

@@ -1,5 +1,4 @@
 -- Each way out by its test.
-use borrow.Author.Rules.{rules}
 use Rattle.spacing.specs.Spacing.{initial_spacing}
 use Rattle.spacing.proofs.side.initial_spacing.Goals as goal
 

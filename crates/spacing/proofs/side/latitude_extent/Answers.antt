@@ -1,6 +1,5 @@
 -- The code is the definition, operation for operation.
 use borrow.Author.Tests.{eq-eqb, ne_eqb}
-use borrow.Author.Rules.{rules}
 use Rattle.spacing.specs.Spacing.{latitude_extent}
 use Rattle.floats.proofs.Literals.{literal_0, literal_8}
 use Rattle.spacing.proofs.side.latitude_extent.Goals as goal

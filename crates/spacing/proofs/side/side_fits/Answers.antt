@@ -1,5 +1,4 @@
 -- Each way out by its test.
-use borrow.Author.Rules.{rules}
 use Rattle.spacing.specs.Spacing.{side_fits}
 use Rattle.spacing.proofs.side.side_fits.Goals as goal
 

@@ -1,6 +1,5 @@
 -- Each way out by its variant.
 use mathlib.Core.Path.{sym, ap}
-use borrow.Author.Rules.{rules}
 use Rattle.spacing.specs.Spacing.{spacing_given}
 use Rattle.spacing.proofs.side.spacing_given.Goals as goal
 

@@ -1,10 +1,9 @@
 -- Invariant: what is left to halve gives the whole's answer.
-use Prim.Native.Nat.{◌+◌, ◌-◌, ◌/◌, ◌%◌, ◌≤◌}
-use mathlib.Core.Path.{◌≡◌, refl, sym, ◌∙◌}
+use Prim.Native.Nat.{◌+◌, ◌-◌, ◌/◌, ◌%◌}
+use mathlib.Core.Path.{refl, sym, ◌∙◌}
 use native.Mathlib.Omega.{arith}
 use borrow.Author.Rules.{rules}
-use Rattle.spacing.specs.Spacing.{widest_side}
-use Rattle.spacing.proofs.Sides.{widest, widest_whole, widest_none, widest_up, widest_down}
+use Rattle.spacing.proofs.Sides.{widest_whole, widest_none, widest_up, widest_down}
 use Rattle.spacing.proofs.side.widest_side.Goals as goal
 
 pub loop-low-init : goal.loop-low-init

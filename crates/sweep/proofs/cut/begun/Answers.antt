@@ -1,5 +1,4 @@
 -- `sweep::cut::begun`: one level, and nothing counted.
-use borrow.Author.Rules.{rules}
 use Rattle.sweep.proofs.cut.begun.Goals as goal
 
 pub returns : goal.returns

@@ -1,6 +1,5 @@
 -- `sweep::cut::joined`: the better held, the counts added.
 use Rattle.levels.specs.State.{joined_results}
-use borrow.Author.Rules.{rules}
 use Rattle.sweep.proofs.cut.joined.Goals as goal
 
 pub returns : goal.returns

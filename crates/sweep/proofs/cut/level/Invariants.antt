@@ -1,8 +1,6 @@
 -- `sweep::cut::level`. Invariant: the result is the definition's over the chunks passed, and their children are written.
 use Prim.Native.Nat.{◌-◌}
-use native.Mathlib.Omega.{arith}
-use Rattle.sweep.proofs.Chunks.{Leveling, blocks_few, level_start, level_on, level_words, level_sweeps, level_light, level_next, level_done}
-use borrow.Author.Rules.{rules}
+use Rattle.sweep.proofs.Chunks.{Leveling}
 use Rattle.sweep.proofs.cut.level.Given as goal
 
 abbrev pub invariant-loop-start : goal.invariant-loop-start

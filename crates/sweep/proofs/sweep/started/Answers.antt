@@ -1,5 +1,4 @@
 -- `sweep::sweep::started`: the definition opened.
-use borrow.Author.Rules.{rules}
 use Rattle.levels.specs.State.{started_work}
 use Rattle.sweep.proofs.sweep.started.Goals as goal
 

@@ -1,7 +1,6 @@
 -- `sweep::sweep::write_children`: a survivor's children, or nothing.
 use Rattle.lists.specs.Lists.{each}
 use Rattle.sweep.proofs.Sweeps.{written_nothing}
-use borrow.Author.Rules.{rules}
 use Rattle.sweep.proofs.sweep.write_children.Goals as goal
 
 pub returns-then-survives : goal.returns-then-survives

@@ -1,6 +1,5 @@
 -- `tally::add::plus`: each count added, far below its limit.
 use native.Mathlib.Omega.{arith}
-use borrow.Author.Rules.{rules}
 use Rattle.tally.specs.Counts.{plus}
 use Rattle.tally.specs.State.{weight}
 use Rattle.tally.proofs.add.plus.Goals as goal

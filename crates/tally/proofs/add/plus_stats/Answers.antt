@@ -1,6 +1,5 @@
 -- `tally::add::plus_stats`: each count added, far below its limit.
 use native.Mathlib.Omega.{arith}
-use borrow.Author.Rules.{rules}
 use Rattle.tally.specs.Counts.{plus_stats}
 use Rattle.tally.specs.State.{stats_weight}
 use Rattle.tally.proofs.add.plus_stats.Goals as goal

@@ -3,7 +3,6 @@ use lib.Ieee.{to_bits}
 use lib.Ieee.Compare.{differs_from_itself}
 use Rattle.lists.proofs.Bools.{of_true}
 use Rattle.floats.proofs.Next.{no_nan_of}
-use borrow.Author.Rules.{rules}
 use Rattle.test_lines.proofs.numbers.bits_of.Goals as goal
 
 pub returns-then-x : goal.returns-then-x

@@ -1,8 +1,7 @@
 -- The words in turn.
-use Prim.Native.Nat.{◌≤◌, ◌-◌}
-use mathlib.Core.Path.{◌≡◌, refl, ap, ◌∙◌}
+use Prim.Native.Nat.{◌-◌}
+use mathlib.Core.Path.{refl, ap, ◌∙◌}
 use native.Mathlib.Omega.{arith}
-use lib.ListN.{length, take}
 use lib.Seq.{sets, take_all}
 use borrow.Author.Rules.{rules}
 use Rattle.test_lines.proofs.Words.{sets_more}

@@ -1,11 +1,8 @@
 -- The words in turn.
 use Prim.Native.Nat.{◌≤◌, ◌-◌}
-use mathlib.Core.Path.{◌≡◌, refl, ap, ◌∙◌}
-use native.Mathlib.Omega.{arith}
+use mathlib.Core.Path.{◌≡◌}
 use lib.ListN.{length, take}
-use lib.Seq.{sets, take_all}
-use borrow.Author.Rules.{rules}
-use Rattle.test_lines.proofs.Words.{sets_more}
+use lib.Seq.{sets}
 use Rattle.test_lines.proofs.numbers.copy.Given as goal
 
 abbrev pub invariant-loop-i : goal.invariant-loop-i

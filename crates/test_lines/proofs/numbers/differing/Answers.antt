@@ -1,11 +1,9 @@
 -- Invariant: so many of the first k words differ.
-use Prim.Native.Nat.{◌-◌, ◌≤◌}
+use Prim.Native.Nat.{◌-◌}
 use mathlib.Core.Bool.{not}
 use mathlib.Core.Path.{◌≡◌}
 use native.Mathlib.Omega.{arith}
 use lib.Dec.{eqb}
-use borrow.Author.Rules.{rules}
-use Rattle.test_lines.specs.Numbers.{differing}
 use Rattle.test_lines.proofs.Words.{at_most_one, differing_none, differing_more}
 use Rattle.test_lines.proofs.numbers.differing.Goals as goal
 

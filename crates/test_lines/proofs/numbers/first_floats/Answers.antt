@@ -1,6 +1,5 @@
 -- As many as there are.
 use Rattle.test_lines.proofs.Words.{front_count, front_taken}
-use borrow.Author.Rules.{rules}
 use Rattle.test_lines.proofs.numbers.first_floats.Goals as goal
 
 pub slice_bounds-result-end : goal.slice_bounds-result-end

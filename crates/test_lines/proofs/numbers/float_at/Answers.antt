@@ -1,7 +1,6 @@
 -- The word, then its float.
 use mathlib.Core.Path.{ap, ◌∙◌}
 use lib.Ieee.{binary64, of_bits}
-use borrow.Author.Rules.{rules}
 use Rattle.test_lines.proofs.numbers.float_at.Goals as goal
 
 pub returns : goal.returns

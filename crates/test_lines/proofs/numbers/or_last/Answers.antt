@@ -1,6 +1,5 @@
 -- Each way out by its test.
 use native.Mathlib.Omega.{arith}
-use borrow.Author.Rules.{rules}
 use borrow.Author.Tests.{lt-ltb, le-ltb}
 use Rattle.test_lines.specs.Numbers.{or_last}
 use Rattle.test_lines.proofs.Words.{beyond}

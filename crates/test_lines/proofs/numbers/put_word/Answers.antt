@@ -2,7 +2,6 @@
 use mathlib.Core.Path.{sym}
 use native.Mathlib.Omega.{arith}
 use lib.Seq.{set_out}
-use borrow.Author.Rules.{rules}
 use Rattle.test_lines.proofs.numbers.put_word.Goals as goal
 
 pub returns-else-i-words : goal.returns-else-i-words

@@ -1,7 +1,6 @@
 -- The word, then its number of 32 bits.
 use mathlib.Core.Path.{ap, ◌∙◌}
 use Rattle.test_lines.specs.Numbers.{short_of}
-use borrow.Author.Rules.{rules}
 use Rattle.test_lines.proofs.numbers.short_at.Goals as goal
 
 pub returns : goal.returns

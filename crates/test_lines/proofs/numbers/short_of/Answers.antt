@@ -1,5 +1,4 @@
 -- The comparison decides.
-use borrow.Author.Rules.{rules}
 use borrow.Author.Tests.{lt-ltb, le-ltb}
 use Rattle.test_lines.specs.Numbers.{short_of}
 use Rattle.test_lines.proofs.numbers.short_of.Goals as goal

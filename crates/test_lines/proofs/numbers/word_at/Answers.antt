@@ -1,6 +1,5 @@
 -- Beyond the end there is the default.
 use Rattle.test_lines.proofs.Words.{beyond}
-use borrow.Author.Rules.{rules}
 use Rattle.test_lines.proofs.numbers.word_at.Goals as goal
 
 pub returns : goal.returns

@@ -1,6 +1,5 @@
 -- Each way out by its tests.
 use native.Mathlib.Omega.{arith}
-use borrow.Author.Rules.{rules}
 use borrow.Author.Tests.{lt-leb, le-leb, lt-ltb, le-ltb}
 use Rattle.test_lines.specs.Lines.{fits}
 use Rattle.test_lines.proofs.reader.fits.Goals as goal

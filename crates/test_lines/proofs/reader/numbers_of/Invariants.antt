@@ -1,12 +1,9 @@
 -- Invariant: the bytes before i are read; a byte begins at most one number.
 use Prim.Native.Nat.{◌-◌, ◌≤◌}
-use mathlib.Core.Path.{◌≡◌, refl}
-use native.Mathlib.Omega.{arith}
-use lib.ListN.{length, take, drop, get_or}
-use borrow.Author.Rules.{rules}
+use mathlib.Core.Path.{◌≡◌}
+use lib.ListN.{length, take, drop}
 use Rattle.lists.specs.Lists.{fold}
 use Rattle.test_lines.specs.Lines.{Reading, read_byte, letter_of}
-use Rattle.test_lines.proofs.Lines.{took_count, read_none, read_more, read_all}
 use Rattle.test_lines.proofs.reader.numbers_of.Given as goal
 
 abbrev pub invariant-loop-i : goal.invariant-loop-i

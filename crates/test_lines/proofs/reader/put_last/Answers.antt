@@ -1,6 +1,5 @@
 -- Where there is a number.
 use native.Mathlib.Nat.{zero-add}
-use borrow.Author.Rules.{rules}
 use borrow.Author.Tests.{lt-ltb, le-ltb}
 use Rattle.test_lines.specs.Lines.{last_put}
 use Rattle.test_lines.proofs.reader.put_last.Goals as goal

@@ -1,5 +1,4 @@
 -- Each way out by its tests.
-use borrow.Author.Rules.{rules}
 use borrow.Author.Tests.{eq-eqb, ne_eqb}
 use Rattle.test_lines.specs.Lines.{took}
 use Rattle.test_lines.proofs.reader.took.Goals as goal

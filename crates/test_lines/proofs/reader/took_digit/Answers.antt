@@ -1,7 +1,6 @@
 -- The test decides, and bounds the number.
 use native.Mathlib.Omega.{arith}
 use mathlib.Core.Path.{sym, ◌∙◌}
-use borrow.Author.Rules.{rules}
 use Rattle.lists.proofs.Bools.{cond_true, cond_false}
 use Rattle.test_lines.specs.Lines.{took_digit}
 use Rattle.test_lines.proofs.Lines.{digit_fits}

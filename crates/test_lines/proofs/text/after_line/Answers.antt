@@ -1,10 +1,7 @@
 -- Invariant: the line goes on to place i at least.
-use Prim.Native.Nat.{◌+◌, ◌-◌, ◌≤◌}
-use mathlib.Core.Path.{◌≡◌, refl}
+use Prim.Native.Nat.{◌-◌}
+use mathlib.Core.Path.{refl}
 use native.Mathlib.Omega.{arith}
-use lib.ListN.{length, drop}
-use borrow.Author.Rules.{rules}
-use Rattle.test_lines.specs.Lines.{line_length}
 use Rattle.test_lines.proofs.Lines.{line_ends, line_goes_on, line_none}
 use Rattle.test_lines.proofs.text.after_line.Goals as goal
 

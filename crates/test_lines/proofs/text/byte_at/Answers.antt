@@ -1,7 +1,6 @@
 -- Beyond the end there is the default.
 use Prim.Native.Nat.{◌+◌}
 use native.Mathlib.Omega.{arith}
-use borrow.Author.Rules.{rules}
 use Rattle.test_lines.proofs.Words.{beyond}
 use Rattle.test_lines.proofs.text.byte_at.Goals as goal
 
