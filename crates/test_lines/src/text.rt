@@ -1,32 +1,47 @@
 // A list as bytes: its file, its lines.
-ghost use Rattle.std.specs.Prelude.{◌+◌, ◌≤◌, ◌<◌, ◌≡◌, length, get_or, drop};
-ghost use Rattle.io.specs.Counts.{IsPrefixLen};
+ghost use Rattle.std.specs.Prelude.{◌+◌, ◌≤◌, ◌<◌, ◌≡◌, IfOk, length, get_or, drop, take};
+ghost use Rattle.std.specs.Counts.{IsPrefixLen};
+ghost use Rattle.std.specs.Io.KnownBytes.{Consumes, IsAtEnd};
 ghost use Rattle.test_lines.specs.Lines.{line_length};
 
-use libc::STDOUT_FILENO;
+use std::io::Read;
+use std::rt::Files;
+use std::{fs, io};
+
+// The reader's bytes, as many as there is room for; how many they are. Fewer only at the reader's end.
+fn read_full<R: Read>(reader: &mut R, list: &mut [u8]) -> io::Result<usize>
+    ensures in_bounds { IfOk result (λ n. IsPrefixLen n list.new) }
+    ensures bytes { IfOk result (λ n. Consumes (R.remaining reader.old) (R.remaining reader.new) (take n list.new)) }
+    ensures end { IfOk result (λ n. n < length list.new → IsAtEnd (R.remaining reader.new)) }
+{
+    let mut done: usize = 0;
+    while done < list.len() {
+        let n = reader.read(&mut list[done..])?;
+        if n == 0 {
+            break;
+        }
+        done += n;
+    }
+    Ok(done)
+}
 
 // Whether the file goes on behind what was read of it.
-fn goes_on(fd: i32) -> bool {
+fn goes_on<R: Read>(file: &mut R) -> io::Result<bool> {
     let mut one = [0u8; 1];
-    io::read_full(fd, &mut one) != 0
+    Ok(read_full(file, &mut one)? != 0)
 }
 
 // The file's bytes, as many as there is room for; how many they are. A list that is cut is told by a printed line, by
 // which the program prints something else than it must.
-pub fn read(name: &[u8], list: &mut [u8]) -> usize
-    ensures { IsPrefixLen result list.new }
+pub fn read(rt: &(impl Files + Print), name: &str, list: &mut [u8]) -> io::Result<usize>
+    ensures { IfOk result (λ n. IsPrefixLen n list.new) }
 {
-    let fd = os::open_read(name);
-    if fd < 0 {
-        os::fail(name);
-        return 0;
+    let mut file = fs::open(rt, name)?;
+    let n = read_full(&mut file, list)?;
+    if goes_on(&mut file)? {
+        println!(rt; "list too long")?;
     }
-    let n = io::read_full(fd, list);
-    if goes_on(fd) {
-        io::write_all(STDOUT_FILENO, b"list too long\n");
-    }
-    libc::close(fd);
-    n
+    Ok(n)
 }
 
 // The byte i places behind another one, 0 beyond the end.
