@@ -3,7 +3,7 @@ use Prim.Native.Nat.{ℕ, ◌+◌, ◌-◌, ◌≤◌, ◌<◌}
 use mathlib.Core.Path.{◌≡◌, refl}
 use mathlib.Core.Logic.{◌⊎◌, inl, inr}
 use mathlib.Core.Bool.{Bool, true, false, not, ◌&&◌}
-use mathlib.Core.List.{List, ◌∷◌}
+use mathlib.Core.List.{List, [], ◌∷◌}
 use native.Mathlib.Omega.{arith}
 use lib.Dec.{T, eqb}
 use lib.Ieee.{Float, le}
@@ -63,6 +63,7 @@ module _ (m : Map) (persons : Float) (km : ℕ) where
   -- the witness is the first of them
   witnessed : (ps : List Probe) → AnyOf ShortProbe ps → AllOf (BestProbe m) ps → Witnessed m (km - 1) (short_below_of persons km ps)
   unfolding short_below_of
+  witnessed [] f _ = elim f [ ]
   witnessed (p ∷ ps) f (also b a) =
       cond_case (Witnessed m (km - 1)) (eqb (p.km + 1) km && not (reaches persons p.centre)) _ _
       (λ t.

@@ -14,8 +14,7 @@ use Rattle.job_commands.specs.declared.Command.TheVariants.{SetGrid, SetCount, S
 use Rattle.job_rules.specs.Apply.{first}
 use Rattle.job_rules.proofs.Commands.{refused_by}
 use borrow.Author.Rules.{rules}
-use Rattle.job_step.proofs.steps.first.Statement.{statement}
-use Rattle.job_step.proofs.steps.first.Tie as tie
+use Rattle.job_step.proofs.steps.first.Goals as goal
 
 tag_above : (n : ℕ) → OneOf (1 ∷ 2 ∷ 3 ∷ 4 ∷ 5 ∷ 6 ∷ []) n → 0 < n
 tag_above n (inl e) = omega (arith, e)
@@ -35,20 +34,10 @@ too_early l (Most spacing km) h = refl
 too_early l (Least spacing share) h = refl
 too_early l End h = refl
 
-returns : tie.Need-returns
-returns c = rw c.before.before.command.given.1 c.set-grid.ensures
+pub returns-in-SetGrid : goal.returns-in-SetGrid
+returns-in-SetGrid c = rw c.in-SetGrid.is c.set_grid.ensures
 
-returns-2 : tie.Need-returns-2
-returns-2 c =
-    let a = c.before.before.args in
-    c.refuse.ensures ∙ refused_by a.state a.command 14 (too_early _ a.command (tag_above _ c.before.match.keys2))
-
-pub first_spec : {M : Type 1} → statement M
-first_spec =
-    tie.close
-    (tie.spec
-    (λ c. search rules)
-    (λ c κs. search rules)
-    (λ c κs. search rules)
-    returns
-    returns-2)
+pub returns-in_default : goal.returns-in_default
+returns-in_default c =
+    let a = c.args in
+    c.refuse.ensures ∙ refused_by a.state a.command 14 (too_early _ a.command (tag_above _ c.in_default.keys2))

@@ -1,0 +1,11 @@
+-- A by what was found on the grid: nothing, or what it is done with.
+use mathlib.Core.Path.{◌∙◌}
+use Rattle.job_rules.proofs.Commands.{angle_off, angle_on_lem}
+use borrow.Author.Rules.{rules}
+use Rattle.job_step.proofs.change.set_angle.Goals as goal
+
+pub returns-in-Off : goal.returns-in-Off
+returns-in-Off c = c.refuse.ensures ∙ angle_off _ _ _ _ _ c.angle_on.ensures c.in-Off.is
+
+pub returns-in-On : goal.returns-in-On
+returns-in-On c = c.changed.ensures ∙ angle_on_lem _ _ _ _ _ c.angle_on.ensures c.in-On.is c.with_angle.ensures
