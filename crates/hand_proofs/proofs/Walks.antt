@@ -23,7 +23,7 @@ pub use mathlib.Core.Path.{◌≡◌, refl}
 pub use Prim.Native.Nat.{ℕ}
 pub use mathlib.Core.List.{List, [], ◌∷◌}
 pub use seplogic.Ra.Ura.{Ura}
-pub use seplogic.Ra.TreeShare.{full_share}
+pub use base.Fraction.{full_share}
 pub use mir.Syntax.{erased, ty_int, w64, named}
 pub use mir.Val.{Val, vptr}
 pub use base.Logic.{SProp, ent, sep, emp, guard, snd∗, ex_e, id⊢}
@@ -31,12 +31,11 @@ pub use base.Fml.{Lft, Share, GName, Fml, ftrue, flft, fobs, fbor, fres}
 pub use prog.Memory.{Memory}
 pub use prog.Routine.{Routine}
 pub use prog.Wp.{Heap, Calls, Loops, WpFn, Tables}
-pub use ghost.Atoms.{Atoms, meaning}
-use types.Logic.{Logic, sem}
+pub use types.Logic.{Logic, sem}
 pub use contract.Monad.{Fun, fact, fact_i}
-pub use contract.Running.{given_of, tables}
+pub use contract.Running.{tables}
 unfoldable pub use contract.Running.{tables_of}
-pub use types.Kit.{Given, ‵, raw, ◌⊛◌, given, later, ◌$◌, ◌∵◌, !, qed, by, move, keep, drop, use1, use2, use3, group, split, join, fsplit, fsplit3, fjoin, fjoin3, show, rewrite, suffices, frame, learn, await, done}
+pub use types.Kit.{‵, raw, ◌⊛◌, given, later, ◌$◌, ◌∵◌, !, qed, by, move, keep, drop, use1, use2, use3, group, split, join, fsplit, fsplit3, fjoin, fjoin3, show, rewrite, suffices, frame, learn, await, done}
 pub use types.Run.{look, init, stop, from, addr, and_then, no_more, assigns, land, returns, enter, alloc1, alloc0, params1, pass1, pass0, free0}
 pub use types.SemTy.{Body}
 pub use sound.WpLaws.{FmC, fm_of}
@@ -206,7 +205,7 @@ module _ {M : Type 1} {𝓤 : Ura M} (𝓛 : Logic 𝓤) where
   enum_law N ls few = (EL.val N ls, (EL.tells N ls, EL.lawful N ls 𝓛 few))
 
   abbrev pub mut_law : (κ : Lft) (R : RattleType) → Law (MutRef (named 0) κ R)
-  mut_law κ R = ((λ x. vptr x.ptr.0 x.ptr.1), (mut_Tells (named 0) κ R, mut_Lawful 𝓛 (named 0) κ R))
+  mut_law κ R = ((λ x. vptr x.ref_ptr.0 x.ref_ptr.1), (mut_Tells (named 0) κ R, mut_Lawful 𝓛 (named 0) κ R))
 
   abbrev pub Laws : List RattleType → Type 1
   Laws [] = Unit {1}
@@ -246,14 +245,14 @@ module _ {M : Type 1} {𝓤 : Ura M} (𝓛 : Logic 𝓤) where
   module _ (Tok : SProp 𝓤) where
     module _ (X : RattleType) (E : X.Denot → SProp 𝓤) (v : Val) where
       abbrev pub Result : X.Denot → SProp 𝓤
-      Result x = sep 𝓤 (sep 𝓤 Tok (sem 𝓛 (X.own x (v ∷ [])))) (E x)
+      Result x = sep 𝓤 (sep 𝓤 Tok (sem 𝓛 (X.own_val x (v ∷ [])))) (E x)
 
       abbrev pub After : SProp 𝓤
       After = H.⇛ (ex 𝓤 Result)
 
       pub answered : (τ : Ty) → ((x : X.Denot) → Is X x (v ∷ []) → Typed (τ ∷ []) (v ∷ [])) → (Q : SProp 𝓤) → ((x : X.Denot) → ent 𝓤 (Result x) Q) → ent 𝓤 After (H.⇛ (guard 𝓤 (Typed (τ ∷ []) (v ∷ [])) Q))
       answered τ typed Q k =
-          qed 𝓛 (later (some (λ (x : X.Denot). (raw Tok ⊛ ‵ (X.own x (v ∷ []))) ⊛ raw (E x))) ∷ []) ∵ updating ! $ await ! tt $ pick ! (λ x. split ! $ split ! $ move ! (1 ∷ []) $
+          qed 𝓛 (later (some (λ (x : X.Denot). (raw Tok ⊛ ‵ (X.own_val x (v ∷ []))) ⊛ raw (E x))) ∷ []) ∵ updating ! $ await ! tt $ pick ! (λ x. split ! $ split ! $ move ! (1 ∷ []) $
           peeks ! X (Is X) (shows 𝓛 X) x (v ∷ []) (λ is. at_once ! $ check ! (typed x is) $ move ! (1 ∷ 0 ∷ []) $ join ! $ by ! (k x)))
 
       pub left : (x : X.Denot) → ent 𝓤 (Result x) After
@@ -277,16 +276,16 @@ module _ {M : Type 1} {𝓤 : Ura M} {𝓛 : Logic 𝓤} {K : Type 0} {Γ : List
   pub answers : K → (s : ℕ) (Tok : SProp 𝓤) (X : RattleType) (law : Law 𝓛 X) {Z : Type 0} (F : Z → Fml) (φ : X.Denot → Z → Type 0) {E : Env 𝓤 H} {C : Calls 𝓤 H} {Λ : Loops 𝓤 H} {Q : Post 𝓤 H} {rest : Code} {i : ℕ} {u : Val}
       → nth 𝓛 (stands s E i) Γ ≡ ‵ (froom (spot_of 𝓤 H E i).0 (spot_of 𝓤 H E i).1 zero) → X.mir ≡ (spot_of 𝓤 H E i).0 ∷ []
       → ((x : X.Denot) (z : Z) → φ x z → Is X x (law.0 x ∷ [])
-      → Seq K 𝓛 (‵ (X.own x (law.0 x ∷ [])) ∷ raw Tok ∷ ‵ (F z) ∷ put 𝓛 (stands s E i) (‵ (fat full_share (spot_of 𝓤 H E i).0 (spot_of 𝓤 H E i).1 zero (law.0 x))) Γ) (runs C Λ E rest Q))
+      → Seq K 𝓛 (‵ (X.own_val x (law.0 x ∷ [])) ∷ raw Tok ∷ ‵ (F z) ∷ put 𝓛 (stands s E i) (‵ (fat full_share (spot_of 𝓤 H E i).0 (spot_of 𝓤 H E i).1 zero (law.0 x))) Γ) (runs C Λ E rest Q))
       → Seq K 𝓛 (raw (After 𝓛 Tok X (λ x. ex 𝓤 (λ (z : Z). sep 𝓤 (sem 𝓛 (F z)) (fact 𝓤 (φ x z)))) u) ∷ Γ) (lands C Λ E (place i []) u rest Q)
   answers t s Tok X law {Z} F φ {E} {C} {Λ} {Q} {rest} {i} {u} e m k =
-      use1 𝓛 (later (some (λ (x : X.Denot). (raw Tok ⊛ ‵ (X.own x (u ∷ []))) ⊛ some (λ (z : Z). ‵ (F z) ⊛ raw (fact 𝓤 (φ x z)))))) (id⊢ 𝓤 _) $ await t tt $ pick t (λ x. split t $ move t (1 ∷ []) $ pick t (λ z.
+      use1 𝓛 (later (some (λ (x : X.Denot). (raw Tok ⊛ ‵ (X.own_val x (u ∷ []))) ⊛ some (λ (z : Z). ‵ (F z) ⊛ raw (fact 𝓤 (φ x z)))))) (id⊢ 𝓤 _) $ await t tt $ pick t (λ x. split t $ move t (1 ∷ []) $ pick t (λ z.
       split t $ move t (1 ∷ []) $ heard t (φ x z) (λ says. move t (1 ∷ []) $ split t $ move t (1 ∷ []) $ peeks t X (Is X) (shows 𝓛 X) x (u ∷ []) (λ is.
       let spelled : u ∷ [] ≡ law.0 x ∷ [] = law.1.0 x (u ∷ []) is in
       let is_spelled : Is X x (law.0 x ∷ []) = subst (Is X x) spelled is in
       let typed : Typed ((spot_of 𝓤 H E i).0 ∷ []) (law.0 x ∷ []) = subst (λ τs. Typed τs (law.0 x ∷ [])) m (law.1.1.typed x (law.0 x ∷ []) is_spelled) in
-      let landed : Seq K 𝓛 (‵ (X.own x (law.0 x ∷ [])) ∷ raw Tok ∷ ‵ (F z) ∷ Γ) (lands C Λ E (place i []) (law.0 x) rest Q) = land t (from t (stop t)) (init t (suc (suc (suc (stands s E i)))) e typed.0) $ k x z says is_spelled in
-      subst (λ (w : Val). Seq K 𝓛 (‵ (X.own x (w ∷ [])) ∷ raw Tok ∷ ‵ (F z) ∷ Γ) (lands C Λ E (place i []) w rest Q)) (sym (ap only spelled)) landed))))
+      let landed : Seq K 𝓛 (‵ (X.own_val x (law.0 x ∷ [])) ∷ raw Tok ∷ ‵ (F z) ∷ Γ) (lands C Λ E (place i []) (law.0 x) rest Q) = land t (from t (stop t)) (init t (suc (suc (suc (stands s E i)))) e typed.0) $ k x z says is_spelled in
+      subst (λ (w : Val). Seq K 𝓛 (‵ (X.own_val x (w ∷ [])) ∷ raw Tok ∷ ‵ (F z) ∷ Γ) (lands C Λ E (place i []) w rest Q)) (sym (ap only spelled)) landed))))
 
   -- the callee's number is the caller's answer
   pub hands : K → (s : ℕ) (Tok : SProp 𝓤) (F F' : ℕ → SProp 𝓤) → ((n : ℕ) → ent 𝓤 (F n) (F' n)) → {E : Env 𝓤 H} {C : Calls 𝓤 H} {Λ : Loops 𝓤 H} {Q : Post 𝓤 H} {rest : Code} {i : ℕ} {v : Val}
@@ -299,7 +298,7 @@ module _ {M : Type 1} {𝓤 : Ura M} {𝓛 : Logic 𝓤} {K : Type 0} {Γ : List
   -- ---- what lies behind a `&mut`, written out
   module _ {G : Goal 𝓤 H} where
     pub opens_at : K → Soaks G → (R : RattleType) (law : Law 𝓛 R) {κ : Lft} {q : Share} (h : R.Denot) {γ : GName} (b o : ℕ)
-        → Step K 𝓛 (‵ (cell_at full_share R.mir (law.0 h ∷ []) b o) ∷ ‵ (R.own h (law.0 h ∷ [])) ∷ ‵ (fobor κ q (Body (mem R) b o γ)) ∷ ‵ (fobs γ (R.coded.code h)) ∷ ‵ (fauth γ (R.coded.code h)) ∷ Γ) G
+        → Step K 𝓛 (‵ (cell_at full_share R.mir (law.0 h ∷ []) b o) ∷ ‵ (R.own_val h (law.0 h ∷ [])) ∷ ‵ (fobor κ q (Body (mem R) b o γ)) ∷ ‵ (fobs γ (R.coded.code h)) ∷ ‵ (fauth γ (R.coded.code h)) ∷ Γ) G
         (‵ (fobs γ (R.coded.code h)) ∷ ‵ (fbor κ (Body (mem R) b o γ)) ∷ ‵ (flft κ q) ∷ Γ) G
     opens_at t a R law h b o = step (λ k. opens t a R {h = h} b o (λ vs. spelt t R (Is R) (shows 𝓛 R) (λ x. law.0 x ∷ []) law.1.0 full_share h vs b o $ k))
 
@@ -315,14 +314,14 @@ module _ {M : Type 1} {𝓤 : Ura M} (𝓛 : Logic 𝓤) (R : RattleType) (law :
   lies = cell_at full_share R.mir (law.0 h ∷ []) b zero
 
   -- what it holds is what a borrow of it holds, and back
-  lies_in : ent 𝓤 (sep 𝓤 (H.at full_share τ b zero (law.0 h)) (sem 𝓛 (R.own h (law.0 h ∷ [])))) (sem 𝓛 (part_at R full_share h b zero))
+  lies_in : ent 𝓤 (sep 𝓤 (H.at full_share τ b zero (law.0 h)) (sem 𝓛 (R.own_val h (law.0 h ∷ [])))) (sem 𝓛 (part_at R full_share h b zero))
   unfolding part_of
   lies_in =
-      qed 𝓛 (‵ (fat full_share τ b zero (law.0 h)) ∷ ‵ (R.own h (law.0 h ∷ [])) ∷ []) ∵
+      qed 𝓛 (‵ (fat full_share τ b zero (law.0 h)) ∷ ‵ (R.own_val h (law.0 h ∷ [])) ∷ []) ∵
       use1 𝓛 (‵ lies) (subst (λ (τs : List Ty). ent 𝓤 (H.at full_share τ b zero (law.0 h)) (sem 𝓛 (cell_at full_share τs (law.0 h ∷ []) b zero))) (sym m) (𝓛.laws.at_raw full_share τ b zero (law.0 h))) $
-      fjoin ! $ fpack ! (List Val) (λ vs. fsep (cell_at full_share R.mir vs b zero) (R.own h vs)) (law.0 h ∷ []) $ done !
+      fjoin ! $ fpack ! (List Val) (λ vs. fsep (cell_at full_share R.mir vs b zero) (R.own_val h vs)) (law.0 h ∷ []) $ done !
 
-  lies_out : ent 𝓤 (sem 𝓛 (part_at R full_share h b zero)) (sep 𝓤 (H.at full_share τ b zero (law.0 h)) (sem 𝓛 (R.own h (law.0 h ∷ []))))
+  lies_out : ent 𝓤 (sem 𝓛 (part_at R full_share h b zero)) (sep 𝓤 (H.at full_share τ b zero (law.0 h)) (sem 𝓛 (R.own_val h (law.0 h ∷ []))))
   unfolding part_of
   lies_out =
       qed 𝓛 (‵ (part_at R full_share h b zero) ∷ []) ∵ fpick ! (λ vs. fsplit ! $ spelt ! R (Is R) (shows 𝓛 R) (λ x. law.0 x ∷ []) law.1.0 full_share h vs b zero $
@@ -332,7 +331,7 @@ module _ {M : Type 1} {𝓤 : Ura M} {𝓛 : Logic 𝓤} {K : Type 0} {Γ : List
   -- for a lifetime ν that is made for the call, under a name γ
   pub lends : K → Soaks G → (R : RattleType) (law : Law 𝓛 R) {τ : Ty} → R.mir ≡ τ ∷ [] → (h : R.Denot) {b : ℕ}
       → ((ν : ℕ) (γ : GName) → Seq K 𝓛 (‵ (flft (ν ∷ []) full_share) ∷ ‵ ((MutRef (named 0) (ν ∷ []) R).own_val (ref_to h b γ) (vptr b zero ∷ [])) ∷ ‵ (flent (ν ∷ []) (Body (mem R) b zero γ)) ∷ Γ) G)
-      → Seq K 𝓛 (‵ (fat full_share τ b zero (law.0 h)) ∷ ‵ (R.own h (law.0 h ∷ [])) ∷ Γ) G
+      → Seq K 𝓛 (‵ (fat full_share τ b zero (law.0 h)) ∷ ‵ (R.own_val h (law.0 h ∷ [])) ∷ Γ) G
   lends t a R law {τ} m h {b} k =
       use2 𝓛 (‵ (part_at R full_share h b zero)) (lies_in 𝓛 R law τ m h b) $ lft_new t a (λ ν. move t (1 ∷ []) $
       use1 𝓛 (later (some (λ (γ : GName). ‵ ((MutRef (named 0) (ν ∷ []) R).own_val (ref_to h b γ) (vptr b zero ∷ [])) ⊛ ‵ (flent (ν ∷ []) (Body (mem R) b zero γ))))) (lends_ref 𝓛 R (named 0) (ν ∷ []) h b zero) $ await t a $
@@ -340,6 +339,6 @@ module _ {M : Type 1} {𝓤 : Ura M} {𝓛 : Logic 𝓤} {K : Type 0} {Γ : List
 
   -- it comes back at its last value z
   pub comes_back : K → Soaks G → (R : RattleType) (law : Law 𝓛 R) {τ : Ty} → R.mir ≡ τ ∷ [] → {b ν : ℕ} {γ : GName} (z : R.Denot)
-      → Step K 𝓛 (‵ (fat full_share τ b zero (law.0 z)) ∷ ‵ (R.own z (law.0 z ∷ [])) ∷ Γ) G (‵ (flft (ν ∷ []) full_share) ∷ ‵ (flent (ν ∷ []) (Body (mem R) b zero γ)) ∷ ‵ (fres γ (R.coded.code z)) ∷ Γ) G
+      → Step K 𝓛 (‵ (fat full_share τ b zero (law.0 z)) ∷ ‵ (R.own_val z (law.0 z ∷ [])) ∷ Γ) G (‵ (flft (ν ∷ []) full_share) ∷ ‵ (flent (ν ∷ []) (Body (mem R) b zero γ)) ∷ ‵ (fres γ (R.coded.code z)) ∷ Γ) G
   comes_back t a R law {τ} m {b} {ν} {γ} z = step (λ k. lft_end t a $ use3 𝓛 (later (‵ (part_at R full_share z b zero))) (ref_back 𝓛 R (ν ∷ []) γ z b zero) $ await t a $
-      use1 𝓛 (‵ (fat full_share τ b zero (law.0 z)) ⊛ ‵ (R.own z (law.0 z ∷ []))) (lies_out 𝓛 R law τ m z b) $ split t $ k)
+      use1 𝓛 (‵ (fat full_share τ b zero (law.0 z)) ⊛ ‵ (R.own_val z (law.0 z ∷ []))) (lies_out 𝓛 R law τ m z b) $ split t $ k)
