@@ -3,7 +3,7 @@
 --     Held E x τ v                the operand x is v, a value of the type τ
 --     local, field, behind        it is a local, a field of one, or what a local points to
 --     arg                         a local is passed as it stands
---     takes, takes-as, stores     an operand is stored, in a local and behind a reference
+--     takes, takes_as, stores     an operand is stored, in a local and behind a reference
 --     packs                       a struct of two fields is made in a local
 --     gone                        a local is given back, whatever it holds
 --     hole, fills                 an entry is taken out of its place, and put back
@@ -31,6 +31,7 @@ pub use base.Fml.{Lft, Share, GName, Fml, ftrue, flft, fobs, fbor, fres}
 pub use prog.Memory.{Memory}
 pub use prog.Routine.{Routine}
 pub use prog.Wp.{Heap, Calls, Loops, WpFn, Tables}
+pub use ghost.Atoms.{Atoms, meaning}
 pub use types.Logic.{Logic, sem}
 pub use contract.Monad.{Fun, fact, fact_i}
 pub use contract.Running.{tables}
@@ -56,7 +57,7 @@ use Prim.Native.Nat.{zero, suc, ◌+◌, ◌-◌, ◌*◌}
 use mathlib.Core.Bool.{Bool, true, false, ◌&&◌}
 use lib.Dec.{T}
 use lib.ListN.{length}
-use mir.Syntax.{Ty, Tys, tnil, tcons, Sym, ty_struct, copy, aggregate, place, deref, field as fieldStep, assign, seq, rv_opd, Opd as Operand, Body as Code}
+use mir.Syntax.{Ty, Tys, tnil, tcons, Sym, ty_struct, copy, aggregate, place, deref, field as field_step, assign, seq, rv_opd, Opd as Operand, Body as Code}
 use mir.Raw.{raw as raw_ty}
 use mir.Val.{Vals as Values, vnil, vcons, vstruct, WT, has_ty}
 use mir.Fields.{get_v}
@@ -109,9 +110,9 @@ module _ {M : Type 1} {𝓤 : Ura M} (K : Type 0) (𝓛 : Logic 𝓤) (Γ : List
     pub fits : ent 𝓤 (⋆ 𝓛 Γ) (guard 𝓤 (Fits τ v) (⋆ 𝓛 Γ))
 
 module _ {M : Type 1} {𝓤 : Ura M} {𝓛 : Logic 𝓤} {K : Type 0} {Γ : List (Item 𝓤)} where
-  -- what is read at a place is a value of the place's type
   open 𝓛 use {H}
 
+  -- what is read at a place is a value of the place's type
   is_typed : (τ : Ty) (b o : ℕ) (v : Val) → Reads K 𝓛 Γ τ b o v → ent 𝓤 (⋆ 𝓛 Γ) (guard 𝓤 (Fits τ v) (⋆ 𝓛 Γ))
   is_typed τ b o v r =
       let P : Val → SProp 𝓤 = λ u. sep 𝓤 (fact 𝓤 (u ≡ v)) (⋆ 𝓛 Γ) in
@@ -125,7 +126,7 @@ module _ {M : Type 1} {𝓤 : Ura M} {𝓛 : Logic 𝓤} {K : Type 0} {Γ : List
 
     pub field : K → (s : ℕ) {i k : ℕ} {q : Share} {ν : Sym} {τs : Tys} {vs : Values} {τ : Ty} {d : ℕ}
         → nth 𝓛 (stands s E i) Γ ≡ ‵ (fat q (ty_struct ν τs) (spot_of 𝓤 H E i).1 zero (vstruct vs)) → field_at zero τs k ≡ some_o (τ, d) → field_of (spot_of 𝓤 H E i).0 k ≡ some_o (τ, d)
-        → Held K 𝓛 Γ E (copy (place i (fieldStep k ∷ []))) τ (get_v vs k)
+        → Held K 𝓛 Γ E (copy (place i (field_step k ∷ []))) τ (get_v vs k)
     field t s {i} {k} {q} {ν} {τs} {vs} {τ} {d} e e₁ e₂ =
         let there : Reads K 𝓛 Γ τ (spot_of 𝓤 H E i).1 (zero + d) (get_v vs k) =
         look_in t (stands s E i) (sub t k e₁ (subst (λ (j : Item 𝓤). Part K 𝓛 j q (ty_struct ν τs) (spot_of 𝓤 H E i).1 zero (vstruct vs) (λ u. ‵ (fat q (ty_struct ν τs) (spot_of 𝓤 H E i).1 zero u))) (sym e) (whole t))) in
@@ -270,9 +271,9 @@ module _ {M : Type 1} {𝓤 : Ura M} (𝓛 : Logic 𝓤) where
     told F₀ = ex_e 𝓤 _ (λ x. via 𝓤 (fact 𝓤 φ) (snd∗ 𝓤 (sem 𝓛 (F₀ x)) (fact 𝓤 φ)) beside)
 
 module _ {M : Type 1} {𝓤 : Ura M} {𝓛 : Logic 𝓤} {K : Type 0} {Γ : List (Item 𝓤)} where
-  -- what the callee says of its answer x and of the last values z is φ x z
   open 𝓛 use {H}
 
+  -- what the callee says of its answer x and of the last values z is φ x z
   pub answers : K → (s : ℕ) (Tok : SProp 𝓤) (X : RattleType) (law : Law 𝓛 X) {Z : Type 0} (F : Z → Fml) (φ : X.Denot → Z → Type 0) {E : Env 𝓤 H} {C : Calls 𝓤 H} {Λ : Loops 𝓤 H} {Q : Post 𝓤 H} {rest : Code} {i : ℕ} {u : Val}
       → nth 𝓛 (stands s E i) Γ ≡ ‵ (froom (spot_of 𝓤 H E i).0 (spot_of 𝓤 H E i).1 zero) → X.mir ≡ (spot_of 𝓤 H E i).0 ∷ []
       → ((x : X.Denot) (z : Z) → φ x z → Is X x (law.0 x ∷ [])
