@@ -4,6 +4,7 @@ ghost use Rattle.std.specs.Prelude.{◌<◌};
 use crate::print;
 use grid::Grid;
 use sheet::SheetJudge;
+use std::io;
 use test_cases::Map;
 
 fn by_angle(grid: Grid, angles: &[f64]) -> bool {
@@ -31,7 +32,7 @@ fn by_pieces(grid: Grid, angles: &[f64], n: usize) -> bool
 }
 
 // J: the length of the pieces, 0 for one by one.
-pub(crate) fn sheet(line: &[u64], map: Map, angles: &[f64]) {
+pub(crate) fn sheet(rt: &impl Print, line: &[u64], map: Map, angles: &[f64]) -> io::Result<()> {
     let n = test_lines::word_at(line, 0) as usize;
     let lent = test_lines::first_floats(angles, map.angles);
     let well = if n == 0 {
@@ -40,8 +41,8 @@ pub(crate) fn sheet(line: &[u64], map: Map, angles: &[f64]) {
         by_pieces(map.grid, lent, n)
     };
     if well {
-        print::text(b": well\n");
+        print::text(rt, b": well\n")
     } else {
-        print::text(b": refused\n");
+        print::text(rt, b": refused\n")
     }
 }

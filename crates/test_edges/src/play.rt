@@ -1,9 +1,17 @@
 // The calls, each with buffers that are full of sevens.
 use crate::{judge, ledgers, print, puts};
+use std::io;
 use test_cases::Map;
 
 // P: km, row, col.
-fn circle(line: &[u64], map: Map, counts: &[u32], angles: &[f64], cosines: &[f64]) {
+fn circle(
+    rt: &impl Print,
+    line: &[u64],
+    map: Map,
+    counts: &[u32],
+    angles: &[f64],
+    cosines: &[f64],
+) -> io::Result<()> {
     let mut sums = [print::BEFORE; print::BUFFER];
     let mut population: u64 = 0;
     let refusal = test_cases::circle(
@@ -15,26 +23,34 @@ fn circle(line: &[u64], map: Map, counts: &[u32], angles: &[f64], cosines: &[f64
         &mut sums,
         &mut population,
     );
-    print::answer(refusal, &[population], &sums, map.filled);
-    print::text(b"\n");
+    print::answer(rt, refusal, &[population], &sums, map.filled)?;
+    print::text(rt, b"\n")
 }
 
 fn found(
+    rt: &impl Print,
     refusal: u32,
     words: &[u64; 10],
     map: Map,
     sums: &[u64],
     current: &[u64],
     following: &[u64],
-) {
-    print::answer(refusal, words, sums, map.filled);
-    print::changed(refusal, current, map.current);
-    print::changed(refusal, following, map.following);
-    print::text(b"\n");
+) -> io::Result<()> {
+    print::answer(rt, refusal, words, sums, map.filled)?;
+    print::changed(rt, refusal, current, map.current)?;
+    print::changed(rt, refusal, following, map.following)?;
+    print::text(rt, b"\n")
 }
 
 // M: km, whether the spacing is automatic, spacing.
-fn search(line: &[u64], map: Map, counts: &[u32], angles: &[f64], cosines: &[f64]) {
+fn search(
+    rt: &impl Print,
+    line: &[u64],
+    map: Map,
+    counts: &[u32],
+    angles: &[f64],
+    cosines: &[f64],
+) -> io::Result<()> {
     let mut sums = [print::BEFORE; print::BUFFER];
     let mut current = [print::BEFORE; print::BUFFER];
     let mut following = [print::BEFORE; print::BUFFER];
@@ -54,37 +70,40 @@ fn search(line: &[u64], map: Map, counts: &[u32], angles: &[f64], cosines: &[f64
         &mut words,
         &mut tolerance,
     );
-    found(refusal, &words, map, &sums, &current, &following);
+    found(rt, refusal, &words, map, &sums, &current, &following)
 }
 
 // Of the answer's words those before the work of the searches.
 fn found_least(
+    rt: &impl Print,
     refusal: u32,
     words: &[u64; 19],
     map: Map,
     sums: &[u64],
     current: &[u64],
     following: &[u64],
-) {
+) -> io::Result<()> {
     print::answer(
+        rt,
         refusal,
         test_lines::first_words(words, 14),
         sums,
         map.filled,
-    );
-    print::changed(refusal, current, map.current);
-    print::changed(refusal, following, map.following);
+    )?;
+    print::changed(rt, refusal, current, map.current)?;
+    print::changed(rt, refusal, following, map.following)
 }
 
 // R: what is owed, share, whether the spacing is automatic, spacing. T: the same, and the ledger stays as it is left.
 fn smallest(
+    rt: &impl Print,
     line: &[u64],
     map: Map,
     counts: &[u32],
     angles: &[f64],
     cosines: &[f64],
     after: &mut [u64],
-) -> u32 {
+) -> io::Result<u32> {
     let mut sums = [print::BEFORE; print::BUFFER];
     let mut current = [print::BEFORE; print::BUFFER];
     let mut following = [print::BEFORE; print::BUFFER];
@@ -105,11 +124,12 @@ fn smallest(
         &mut words,
         &mut floats,
     );
-    found_least(refusal, &words, map, &sums, &current, &following);
-    refusal
+    found_least(rt, refusal, &words, map, &sums, &current, &following)?;
+    Ok(refusal)
 }
 
 fn smallest_on(
+    rt: &impl Print,
     line: &[u64],
     map: Map,
     counts: &[u32],
@@ -117,19 +137,21 @@ fn smallest_on(
     cosines: &[f64],
     ledger: &mut [u64],
     stays: bool,
-) {
+) -> io::Result<()> {
     let mut after = [0u64; test_cases::LEDGER_WORDS];
     test_lines::copy(ledger, &mut after, 0);
-    let refusal = smallest(line, map, counts, angles, cosines, &mut after);
-    print::entries(ledgers::strayed(refusal, line, ledger, &after), &after);
-    print::text(b"\n");
+    let refusal = smallest(rt, line, map, counts, angles, cosines, &mut after)?;
+    print::entries(rt, ledgers::strayed(refusal, line, ledger, &after), &after)?;
+    print::text(rt, b"\n")?;
     if stays {
         test_lines::copy(&after, ledger, 0);
     }
+    Ok(())
 }
 
 // Plays a call. Whether the letter is that of one.
 pub(crate) fn call(
+    rt: &impl Print,
     tag: u8,
     line: &[u64],
     map: Map,
@@ -137,26 +159,14 @@ pub(crate) fn call(
     angles: &[f64],
     cosines: &[f64],
     ledger: &mut [u64],
-) -> bool {
-    if tag == b'R' || tag == b'T' {
-        smallest_on(line, map, counts, angles, cosines, ledger, tag == b'T');
-        return true;
+) -> io::Result<bool> {
+    match tag {
+        b'R' | b'T' => smallest_on(rt, line, map, counts, angles, cosines, ledger, tag == b'T')?,
+        b'I' => puts::put(rt, map, line, ledger)?,
+        b'M' => search(rt, line, map, counts, angles, cosines)?,
+        b'P' => circle(rt, line, map, counts, angles, cosines)?,
+        b'J' => judge::sheet(rt, line, map, angles)?,
+        _ => return Ok(false),
     }
-    if tag == b'I' {
-        puts::put(map, line, ledger);
-        return true;
-    }
-    if tag == b'M' {
-        search(line, map, counts, angles, cosines);
-        return true;
-    }
-    if tag == b'P' {
-        circle(line, map, counts, angles, cosines);
-        return true;
-    }
-    if tag == b'J' {
-        judge::sheet(line, map, angles);
-        return true;
-    }
-    false
+    Ok(true)
 }

@@ -4,6 +4,7 @@ use candidates::Candidate;
 use grid::{Cell, Col, Grid, RadiusKm, Row};
 use ledger::Entry;
 use put::PutAnswer;
+use std::io;
 use test_cases::Map;
 
 // What is printed where there is no room for a ledger.
@@ -46,26 +47,32 @@ fn by_lending(grid: Grid, line: &[u64], before: &[u64], after: &mut [u64]) -> u3
 }
 
 // The number returned; and among the words that have changed the entry's own, which stand where they are owed.
-fn say(refusal: u32, line: &[u64], before: &[u64], after: &[u64]) {
+fn say(
+    rt: &impl Print,
+    refusal: u32,
+    line: &[u64],
+    before: &[u64],
+    after: &[u64],
+) -> io::Result<()> {
     let from = test_lines::word_at(line, 0) as usize;
     let by = test_lines::word_at(line, 2) as usize;
     let own = test_lines::differing(line, 3, after, from, by);
     let strays = ledgers::strayed(refusal, line, before, after);
-    print::number(refusal as u64);
-    print::text(b", changed");
-    print::entries(std::num::wrapping_add_u64(strays, own), after);
+    print::number(rt, refusal as u64)?;
+    print::text(rt, b", changed")?;
+    print::entries(rt, std::num::wrapping_add_u64(strays, own), after)
 }
 
 // I: what is owed, km, row, col, population.
-pub(crate) fn put(map: Map, line: &[u64], before: &[u64]) {
+pub(crate) fn put(rt: &impl Print, map: Map, line: &[u64], before: &[u64]) -> io::Result<()> {
     let grid = map.grid;
     let mut after = [0u64; test_cases::LEDGER_WORDS];
     test_lines::copy(before, &mut after, 0);
-    print::text(b":");
+    print::text(rt, b":")?;
     let refusal = by_value(grid, line, &mut after);
-    say(refusal, line, before, &after);
-    print::text(b"; lent");
+    say(rt, refusal, line, before, &after)?;
+    print::text(rt, b"; lent")?;
     let lent = by_lending(grid, line, before, &mut after);
-    say(lent, line, before, &after);
-    print::text(b"\n");
+    say(rt, lent, line, before, &after)?;
+    print::text(rt, b"\n")
 }
