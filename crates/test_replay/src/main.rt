@@ -5,8 +5,9 @@
 mod play;
 mod score;
 
-use libc::STDOUT_FILENO;
 use score::Score;
+use std::io;
+use std::rt::Files;
 use test_cases::Map;
 
 // The most numbers of a line, the bytes of the list, and the arrays of its largest map.
@@ -115,53 +116,50 @@ fn list_buffer() -> [u8; LIST] {
     [0u8; LIST]
 }
 
-fn replayed() -> Score {
+fn replayed(rt: &(impl Files + Print)) -> io::Result<Score> {
     let mut list = list_buffer();
     let mut counts = [0u32; COUNTS];
     let mut angles = [0.0f64; ANGLES];
     let mut cosines = [0.0f64; ROWS];
     let mut ledger = [0u64; test_cases::LEDGER_WORDS];
-    let n = test_lines::read(b"answers.txt", &mut list);
-    all_played(
+    let n = test_lines::read(rt, "answers.txt", &mut list)?;
+    Ok(all_played(
         &list[..n],
         &mut counts,
         &mut angles,
         &mut cosines,
         &mut ledger,
-    )
+    ))
 }
 
-fn text(words: &[u8]) {
-    io::write_all(STDOUT_FILENO, words);
+fn text(rt: &impl Print, words: &str) -> io::Result<()> {
+    rt.print(words)
 }
 
-fn say(words: &[u8], n: u64) {
-    text(words);
-    io::print_decimal(STDOUT_FILENO, n);
-    text(b"\n");
+fn say(rt: &impl Print, words: &str, n: u64) -> io::Result<()> {
+    println!(rt; "{words}{n}")
 }
 
 // How many lines of a letter agree, and how many differ.
-fn compared(words: &[u8], score: Score, letter: u8) {
-    text(words);
-    io::print_decimal(STDOUT_FILENO, score::seen(score, letter, true));
-    text(b" agree, ");
-    io::print_decimal(STDOUT_FILENO, score::seen(score, letter, false));
-    text(b" differ\n");
+fn compared(rt: &impl Print, words: &str, score: Score, letter: u8) -> io::Result<()> {
+    let agree = score::seen(score, letter, true);
+    let differ = score::seen(score, letter, false);
+    println!(rt; "{words}{agree} agree, {differ} differ")
 }
 
-fn main() {
-    let score = replayed();
-    say(b"maps ", score::seen(score, b'G', true));
-    compared(b"refused maps ", score, b'Q');
-    compared(b"circles ", score, b'P');
-    compared(b"spacings ", score, b'S');
-    compared(b"searches ", score, b'M');
-    compared(b"smallest radii ", score, b'R');
-    compared(b"ledgers after them ", score, b'E');
-    say(b"lines ", score.lines);
-    say(b"wrong lines ", score.wrong);
+fn main(rt: HostRuntime) -> io::Result<()> {
+    let score = replayed(&rt)?;
+    say(&rt, "maps ", score::seen(score, b'G', true))?;
+    compared(&rt, "refused maps ", score, b'Q')?;
+    compared(&rt, "circles ", score, b'P')?;
+    compared(&rt, "spacings ", score, b'S')?;
+    compared(&rt, "searches ", score, b'M')?;
+    compared(&rt, "smallest radii ", score, b'R')?;
+    compared(&rt, "ledgers after them ", score, b'E')?;
+    say(&rt, "lines ", score.lines)?;
+    say(&rt, "wrong lines ", score.wrong)?;
     if score.ended {
-        text(b"ended\n");
+        text(&rt, "ended\n")?;
     }
+    Ok(())
 }
