@@ -6,7 +6,8 @@ mod damage;
 mod text;
 
 use damage::Tally;
-use libc::STDOUT_FILENO;
+use std::io;
+use std::rt::Files;
 
 // The jobs of a list, and what damaged copies printed.
 #[derive(Clone, Copy)]
@@ -19,8 +20,10 @@ pub struct Score {
 // A job of at most so many bytes is damaged too.
 const SHORT: usize = 256;
 
-// The bytes of a list, and of what a job prints.
+// The bytes of a list, of a job, and of what a job prints.
 const LIST: usize = 262144;
+
+const JOB: usize = 65536;
 
 const PRINTED: usize = 65536;
 
@@ -110,56 +113,54 @@ fn list_buffer() -> [u8; LIST] {
     [0u8; LIST]
 }
 
+fn job_buffer() -> [u8; JOB] {
+    [0u8; JOB]
+}
+
 fn printed_buffer() -> [u8; PRINTED] {
     [0u8; PRINTED]
 }
 
-fn read_list(name: &[u8], damages: bool) -> Score {
+fn read_list(rt: &(impl Files + Print), name: &str, damages: bool) -> io::Result<Score> {
     let mut list = list_buffer();
-    let mut job = io::large_buffer();
+    let mut job = job_buffer();
     let mut printed = printed_buffer();
-    let n = test_lines::read(name, &mut list);
-    played(&list[..n], &mut job, &mut printed, damages)
+    let n = test_lines::read(rt, name, &mut list)?;
+    Ok(played(&list[..n], &mut job, &mut printed, damages))
 }
 
-fn say(words: &[u8]) {
-    io::write_all(STDOUT_FILENO, words);
+fn say(rt: &impl Print, words: &str) -> io::Result<()> {
+    rt.print(words)
 }
 
-fn say_score(name: &[u8], score: Score) {
-    say(name);
-    say(b": ");
-    io::print_decimal(STDOUT_FILENO, score.agree);
-    say(b" jobs agree, ");
-    io::print_decimal(STDOUT_FILENO, score.differ);
-    say(b" differ\n");
+fn say_score(rt: &impl Print, name: &str, score: Score) -> io::Result<()> {
+    let agree = score.agree;
+    let differ = score.differ;
+    println!(rt; "{name}: {agree} jobs agree, {differ} differ")
 }
 
-fn say_count(words: &[u8], n: u64) {
-    say(words);
-    io::print_decimal(STDOUT_FILENO, n);
-    say(b"\n");
+fn say_count(rt: &impl Print, words: &str, n: u64) -> io::Result<()> {
+    println!(rt; "{words}{n}")
 }
 
-fn say_refusals(tally: Tally) {
-    let mut number: usize = 1;
-    while number < REFUSALS {
-        say(b"refused by ");
-        io::print_decimal(STDOUT_FILENO, number as u64);
-        say_count(b" ", tally.by[number]);
-        number += 1;
+fn say_refusals(rt: &impl Print, tally: Tally) -> io::Result<()> {
+    for number in 1..REFUSALS {
+        say(rt, "refused by ")?;
+        print!(rt; "{number}")?;
+        say_count(rt, " ", tally.by[number])?;
     }
+    Ok(())
 }
 
-fn main() {
-    let listed = read_list(b"jobs.txt", true);
-    let edges = read_list(b"edges.txt", false);
+fn main(rt: HostRuntime) -> io::Result<()> {
+    let listed = read_list(&rt, "jobs.txt", true)?;
+    let edges = read_list(&rt, "edges.txt", false)?;
     let tally = listed.tally;
     let by = tally.by;
-    say_score(b"the original's", listed);
-    say_score(b"edges", edges);
-    say_count(b"damaged copies ", tally.copies);
-    say_count(b"not refused ", by[0]);
-    say_refusals(tally);
-    say_count(b"not lines ", by[31]);
+    say_score(&rt, "the original's", listed)?;
+    say_score(&rt, "edges", edges)?;
+    say_count(&rt, "damaged copies ", tally.copies)?;
+    say_count(&rt, "not refused ", by[0])?;
+    say_refusals(&rt, tally)?;
+    say_count(&rt, "not lines ", by[31])
 }
