@@ -1,5 +1,4 @@
 -- What the call gave, by its two cases.
-use borrow.Author.Rules.{rules}
 use Rattle.crossings.proofs.Crossings.{circle_answered, circle_refused}
 use Rattle.jadurphen.proofs.circle_call.jadurphen_circle.Goals as goal
 

@@ -1,6 +1,5 @@
 -- What the call gave, by its two cases; an answer was read from words that fit.
 use Rattle.crossings.proofs.Crossings.{put_fits, put_done, put_refused}
-use borrow.Author.Rules.{rules}
 use Rattle.jadurphen.proofs.put_call.jadurphen_put.Goals as goal
 
 pub write_ledger-requires : goal.write_ledger-requires

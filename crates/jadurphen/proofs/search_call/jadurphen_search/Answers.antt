@@ -1,6 +1,5 @@
 -- What the call gave, by its two cases.
 use Rattle.crossings.proofs.Crossings.{search_found, search_refused}
-use borrow.Author.Rules.{rules}
 use Rattle.jadurphen.proofs.search_call.jadurphen_search.Goals as goal
 
 pub returns-in-Found : goal.returns-in-Found

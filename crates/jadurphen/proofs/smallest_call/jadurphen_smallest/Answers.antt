@@ -1,6 +1,5 @@
 -- What the call gave, by its two cases; an answer was read from words that fit.
 use Rattle.crossings.proofs.SmallestCrossings.{smallest_fits, smallest_found, smallest_refused}
-use borrow.Author.Rules.{rules}
 use Rattle.jadurphen.proofs.smallest_call.jadurphen_smallest.Goals as goal
 
 pub write_ledger-requires : goal.write_ledger-requires

@@ -1,7 +1,6 @@
 -- R by its answer: found, refused.
 use mathlib.Core.Path.{◌∙◌}
 use Rattle.job_step.proofs.Lent.{least_found, least_refused}
-use borrow.Author.Rules.{rules}
 use Rattle.job_step.proofs.calls.run_least.Goals as goal
 
 pub returns-in-Found : goal.returns-in-Found

@@ -1,7 +1,6 @@
 -- M by its answer: found, refused.
 use mathlib.Core.Path.{◌∙◌}
 use Rattle.job_step.proofs.Lent.{most_found, most_refused}
-use borrow.Author.Rules.{rules}
 use Rattle.job_step.proofs.calls.run_most.Goals as goal
 
 pub returns-in-Found : goal.returns-in-Found

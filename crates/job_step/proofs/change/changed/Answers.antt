@@ -2,7 +2,6 @@
 use mathlib.Core.Path.{◌∙◌, ap}
 use Rattle.job_lines.specs.declared.Line.{Line}
 use Rattle.job_rules.specs.State.{gone_on}
-use borrow.Author.Rules.{rules}
 use Rattle.job_step.proofs.change.changed.Goals as goal
 
 pub returns : goal.returns

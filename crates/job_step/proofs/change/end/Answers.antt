@@ -1,7 +1,6 @@
 -- E: the state as it was, and no line.
 use mathlib.Core.Path.{refl}
 use Rattle.job_rules.proofs.Commands.{end_last}
-use borrow.Author.Rules.{rules}
 use Rattle.job_step.proofs.change.end.Goals as goal
 
 pub returns : goal.returns

@@ -1,6 +1,5 @@
 -- A refusal keeps the state and prints its number.
 use Rattle.job_rules.specs.State.{refused_in}
-use borrow.Author.Rules.{rules}
 use Rattle.job_step.proofs.change.refuse.Goals as goal
 
 pub returns : goal.returns

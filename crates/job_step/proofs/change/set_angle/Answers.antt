@@ -1,7 +1,6 @@
 -- A by what was found on the grid: nothing, or what it is done with.
 use mathlib.Core.Path.{◌∙◌}
 use Rattle.job_rules.proofs.Commands.{angle_off, angle_on_lem}
-use borrow.Author.Rules.{rules}
 use Rattle.job_step.proofs.change.set_angle.Goals as goal
 
 pub returns-in-Off : goal.returns-in-Off

@@ -1,7 +1,6 @@
 -- K by what was found on the grid: nothing, or what it is done with.
 use mathlib.Core.Path.{◌∙◌}
 use Rattle.job_rules.proofs.Commands.{cosine_off, cosine_on}
-use borrow.Author.Rules.{rules}
 use Rattle.job_step.proofs.change.set_cosine.Goals as goal
 
 pub returns-in-Off : goal.returns-in-Off

@@ -1,7 +1,6 @@
 -- C by what was found on the grid: nothing, or what it is done with.
 use mathlib.Core.Path.{◌∙◌}
 use Rattle.job_rules.proofs.Commands.{count_off, count_on}
-use borrow.Author.Rules.{rules}
 use Rattle.job_step.proofs.change.set_count.Goals as goal
 
 pub returns-in-Off : goal.returns-in-Off

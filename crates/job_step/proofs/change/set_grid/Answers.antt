@@ -4,7 +4,6 @@ use mathlib.Core.Bool.{true}
 use Rattle.grid.proofs.General.{said_no, said_yes}
 use Rattle.job_sizes.specs.Sizes.{size_taken}
 use Rattle.job_rules.proofs.Commands.{grid_large, grid_refused, grid_begins}
-use borrow.Author.Rules.{rules}
 use Rattle.job_step.proofs.change.set_grid.Lts as lts
 use Rattle.job_step.proofs.change.set_grid.Reads as reads
 use Rattle.job_step.proofs.change.set_grid.Tie as tie

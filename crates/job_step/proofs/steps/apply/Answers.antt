@@ -1,7 +1,6 @@
 -- The first command or a later one, by whether the job has begun.
 use mathlib.Core.Path.{◌∙◌}
 use Rattle.job_rules.proofs.Commands.{first_applied, later_applied}
-use borrow.Author.Rules.{rules}
 use Rattle.job_step.proofs.steps.apply.Goals as goal
 
 pub returns-then-begun : goal.returns-then-begun

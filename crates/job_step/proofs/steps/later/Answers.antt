@@ -1,7 +1,6 @@
 -- Each command by its own function; a second G is refused.
 use mathlib.Core.Path.{◌∙◌}
 use Rattle.job_rules.proofs.Commands.{second_grid}
-use borrow.Author.Rules.{rules}
 use Rattle.job_step.proofs.steps.later.Goals as goal
 
 pub returns-in-SetGrid : goal.returns-in-SetGrid

@@ -1,7 +1,6 @@
 -- A step by its branches: a command, or none.
 use mathlib.Core.Path.{◌∙◌}
 use Rattle.job_rules.proofs.Stepping.{step_applied, step_malformed}
-use borrow.Author.Rules.{rules}
 use Rattle.job_step.proofs.steps.step.Goals as goal
 
 pub returns-in-Read : goal.returns-in-Read
