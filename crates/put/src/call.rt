@@ -57,7 +57,7 @@ pub fn put_lent(ledger: &mut Ledger, grid: Grid, entry: Entry) -> PutAnswer
     result.answer
 }
 
-// From a ledger by value to one that is lent, and back: whoever calls this one needs no proof by hand.
+// From a ledger by value to one that is lent, and back: whoever calls this one needs no reference.
 pub fn put_by_lending(grid: Grid, ledger: Ledger, entry: Entry) -> PutResult
     ensures { put_gave result.answer result.ledger ≡ put_call grid ledger entry }
 {

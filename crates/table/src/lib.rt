@@ -1,5 +1,5 @@
 // A table: a grid and the slice of its sums. Its functions take it apart and call those of crate `sums`; those whose names end in `_at` make it
-// from plain parameters and go through it, so that whoever calls them needs no walk by hand.
+// from plain parameters and go through it, so that whoever calls them needs no table.
 #![tactic(auto)]
 
 ghost use Rattle.std.specs.Prelude.{◌≡◌, ◌<◌, ◌^◌, leb};

@@ -9,16 +9,8 @@ use Rattle.grid.proofs.Body.{ceiling_most}
 use Rattle.ledger.specs.Ledger.{capacity}
 use Rattle.ledger.proofs.Whole.{places_whole}
 use Rattle.ledger.proofs.Places.{from_end, order_counted, order_beyond, order_next, order_stop, order_end, km_below}
-use Rattle.ledger_questions.proofs.ledger_in_order.Lts as lts
-use Rattle.ledger_questions.proofs.ledger_in_order.Reads as reads
-use Rattle.ledger_questions.proofs.ledger_in_order.Tie as tie
 use Rattle.ledger_questions.proofs.ledger_in_order.Goals as goal
-
-abbrev In-loop-i : Type 0
-In-loop-i = lts.In-loop tie.the-claims reads.Pre reads.Post goal.the-invariant-loop-i goal.the-decreases-loop-i
-
-abbrev Start : Type 0
-Start = lts.Start tie.the-claims reads.Pre reads.Post goal.the-invariant-loop-i goal.the-decreases-loop-i
+use Rattle.ledger_questions.proofs.ledger_in_order.Goals.{In-loop-i, Start}
 
 whole : (st : Start) → length st.args.ledger.places ≡ capacity
 whole st = places_whole st.args.ledger _ st.well_formed.1.0
@@ -36,7 +28,7 @@ loop-i-init c =
 
 pub returns-then-not-follows : goal.returns-then-not-follows
 returns-then-not-follows c =
-    sym (c.loop-i.invariant.2 ∙ order_stop c.args.ledger c.loop-i.i _ (inside c.before.before.before) (whole c.before.before.before.before.before.before.before) c.args.grid c.loop-i.least
+    sym (c.loop-i.invariant.2 ∙ order_stop c.args.ledger c.loop-i.i _ (inside (goal.at.returns-then-not-follows c).In-loop-i) (whole (goal.at.returns-then-not-follows c).Start) c.args.grid c.loop-i.least
     (sym c.follows.ensures ∙ c.if-not-follows.true))
 
 pub overflow_add-least : goal.overflow_add-least
@@ -48,11 +40,11 @@ overflow_add-least c =
 pub loop-i-preserved : goal.loop-i-preserved
 loop-i-preserved c =
     let inv = c.loop-i.invariant in
-    let further = order_next c.args.ledger c.loop-i.i _ (inside c.before.before.before.before) (whole c.before.before.before.before.before.before.before.before) c.args.grid c.loop-i.least
+    let further = order_next c.args.ledger c.loop-i.i _ (inside (goal.at.loop-i-preserved c).In-loop-i) (whole (goal.at.loop-i-preserved c).Start) c.args.grid c.loop-i.least
     (sym c.follows.ensures ∙ c.if-not-follows.false) in
     (omega arith, inv.1, inv.2 ∙ further)
 
 pub returns : goal.returns
 returns c =
-    let none = from_end c.args.ledger c.loop-i.i (whole c.before.before.before.before) (rw (min-eq_left c.loop-i.invariant.1) c.loop-i-test.false) in
+    let none = from_end c.args.ledger c.loop-i.i (whole (goal.at.returns c).Start) (rw (min-eq_left c.loop-i.invariant.1) c.loop-i-test.false) in
     sym (c.loop-i.invariant.2 ∙ order_end _ c.loop-i.least _ none)

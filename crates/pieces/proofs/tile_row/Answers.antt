@@ -4,13 +4,8 @@ use native.Mathlib.Omega.{arith}
 use lib.ListN.{length}
 use borrow.Author.Rules.{rules}
 use Rattle.pieces.proofs.TileWords.{row_start, row_room, row_step, row_done}
-use Rattle.pieces.proofs.tile_row.Lts as lts
-use Rattle.pieces.proofs.tile_row.Reads as reads
-use Rattle.pieces.proofs.tile_row.Tie as tie
 use Rattle.pieces.proofs.tile_row.Goals as goal
-
-abbrev After-step_end-last : Type 0
-After-step_end-last = lts.After-step_end tie.the-claims reads.Pre reads.Post goal.the-invariant-loop-first goal.the-decreases-loop-first
+use Rattle.pieces.proofs.tile_row.Goals.{After-step_end-last}
 
 -- a turn has room for its tile
 room : (c : After-step_end-last) → let l = c.loop-first in l.next < length l.words
@@ -20,10 +15,10 @@ pub loop-first-init : goal.loop-first-init
 loop-first-init c = (row_start _ _ _ _ _ c.requires, search rules)
 
 pub bounds-words-next : goal.bounds-words-next
-bounds-words-next c = room c.before
+bounds-words-next c = room (goal.at.bounds-words-next c).After-step_end-last
 
 pub overflow_add-next : goal.overflow_add-next
-overflow_add-next c = let h = room c.before in search rules
+overflow_add-next c = let h = room (goal.at.overflow_add-next c).After-step_end-last in search rules
 
 pub loop-first-preserved : goal.loop-first-preserved
 loop-first-preserved c = (

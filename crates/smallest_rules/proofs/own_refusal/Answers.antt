@@ -7,19 +7,8 @@ use Rattle.spacing.specs.Spacing.{spacing_given}
 use Rattle.ledger.specs.Ledger.{ledger_in_order}
 use Rattle.share.specs.Target.{share_in_range}
 use Rattle.smallest_rules.specs.Call.{own_questions}
-use Rattle.smallest_rules.proofs.own_refusal.Lts as lts
-use Rattle.smallest_rules.proofs.own_refusal.Reads as reads
-use Rattle.smallest_rules.proofs.own_refusal.Tie as tie
 use Rattle.smallest_rules.proofs.own_refusal.Goals as goal
-
-abbrev Else-not-share_in_range : Type 0
-Else-not-share_in_range = lts.Else1 tie.the-claims reads.Pre reads.Post
-
-abbrev Else-not-spacing_given : Type 0
-Else-not-spacing_given = lts.Else2 tie.the-claims reads.Pre reads.Post
-
-abbrev Else-not-ledger_in_order : Type 0
-Else-not-ledger_in_order = lts.Else3 tie.the-claims reads.Pre reads.Post
+use Rattle.smallest_rules.proofs.own_refusal.Goals.{Else-not-share_in_range, Else-not-spacing_given, Else-not-ledger_in_order}
 
 share-yes : (e : Else-not-share_in_range) → share_in_range e.args.share ≡ true
 share-yes e = said_yes e.share_in_range.ensures e.if-not-share_in_range.false
@@ -36,21 +25,21 @@ returns-then-not-share_in_range c = asked_no _ (said_no c.share_in_range.ensures
 
 pub returns-then-not-spacing_given : goal.returns-then-not-spacing_given
 unfolding own_questions
-returns-then-not-spacing_given c = asked_yes 9 _ (share-yes c.before.before) (asked_no _ (said_no c.spacing_given.ensures c.if-not-spacing_given.true))
+returns-then-not-spacing_given c = asked_yes 9 _ (share-yes (goal.at.returns-then-not-spacing_given c).Else-not-share_in_range) (asked_no _ (said_no c.spacing_given.ensures c.if-not-spacing_given.true))
 
 pub returns-then-not-ledger_in_order : goal.returns-then-not-ledger_in_order
 unfolding own_questions
 returns-then-not-ledger_in_order c =
-    asked_yes 9 _ (share-yes c.before.before.before.before) (asked_yes 10 _ (given c.before.before) (asked_no _ (said_no c.ledger_in_order.ensures c.if-not-ledger_in_order.true)))
+    asked_yes 9 _ (share-yes (goal.at.returns-then-not-ledger_in_order c).Else-not-share_in_range) (asked_yes 10 _ (given (goal.at.returns-then-not-ledger_in_order c).Else-not-spacing_given) (asked_no _ (said_no c.ledger_in_order.ensures c.if-not-ledger_in_order.true)))
 
 pub returns-then-not-places_free : goal.returns-then-not-places_free
 unfolding own_questions
 returns-then-not-places_free c =
-    asked_yes 9 _ (share-yes c.before.before.before.before.before.before) (asked_yes 10 _ (given c.before.before.before.before) (asked_yes 11 _ (in_order c.before.before)
+    asked_yes 9 _ (share-yes (goal.at.returns-then-not-places_free c).Else-not-share_in_range) (asked_yes 10 _ (given (goal.at.returns-then-not-places_free c).Else-not-spacing_given) (asked_yes 11 _ (in_order (goal.at.returns-then-not-places_free c).Else-not-ledger_in_order)
     (asked_no _ (said_no c.places_free.ensures c.if-not-places_free.true))))
 
 pub returns : goal.returns
 unfolding own_questions
 returns c =
-    asked_yes 9 _ (share-yes c.before.before.before.before.before.before) (asked_yes 10 _ (given c.before.before.before.before) (asked_yes 11 _ (in_order c.before.before)
+    asked_yes 9 _ (share-yes (goal.at.returns c).Else-not-share_in_range) (asked_yes 10 _ (given (goal.at.returns c).Else-not-spacing_given) (asked_yes 11 _ (in_order (goal.at.returns c).Else-not-ledger_in_order)
     (asked_yes 12 _ (said_yes c.places_free.ensures c.if-not-places_free.false) asked_none)))

@@ -10,13 +10,8 @@ use borrow.Author.Rules.{part_to_end}
 use Rattle.sums.specs.Sums.{sums_words}
 use Rattle.sums.specs.State.{table_map}
 use Rattle.sums.proofs.Laws.{corner_read, corner_place}
-use Rattle.sums.proofs.corner.Lts as lts
-use Rattle.sums.proofs.corner.Reads as reads
-use Rattle.sums.proofs.corner.Tie as tie
 use Rattle.sums.proofs.corner.Goals as goal
-
-abbrev Start : Type 0
-Start = lts.Start reads.Pre reads.Post tie.handed_clauses
+use Rattle.sums.proofs.corner.Goals.{Start}
 
 -- the word is within the sums
 within : (c : Start) → c.args.row * (c.args.grid.width + 1) + c.args.col < sums_words c.args.grid
@@ -30,25 +25,25 @@ part_read : (xs : List ℕ) (a k : ℕ) → get_or (take (length xs - a) (drop a
 part_read xs a k = ap (λ (l : List ℕ). get_or l k 0) (part_to_end xs a) ∙ get_or-drop a xs k 0
 
 pub overflow_mul-from : goal.overflow_mul-from
-overflow_mul-from c = omega (arith, within c.before.before, c.requires.summed.room)
+overflow_mul-from c = omega (arith, within (goal.at.overflow_mul-from c).Start, c.requires.summed.room)
 
 pub offset_bounds-sums-from : goal.offset_bounds-sums-from
-offset_bounds-sums-from c = omega (arith, within c.before.before, c.requires.summed.room)
+offset_bounds-sums-from c = omega (arith, within (goal.at.offset_bounds-sums-from c).Start, c.requires.summed.room)
 
 pub slice_bounds-words-count : goal.slice_bounds-words-count
-slice_bounds-words-count c = omega (arith, within c.before.before, c.requires.summed.room)
+slice_bounds-words-count c = omega (arith, within (goal.at.slice_bounds-words-count c).Start, c.requires.summed.room)
 
 pub slice_bounds-words-start : goal.slice_bounds-words-start
-slice_bounds-words-start c = omega (arith, within c.before.before, c.requires.summed.room)
+slice_bounds-words-start c = omega (arith, within (goal.at.slice_bounds-words-start c).Start, c.requires.summed.room)
 
 pub slice_bounds-words-end : goal.slice_bounds-words-end
 slice_bounds-words-end c = le_refl _
 
 pub offset_bounds-words-col : goal.offset_bounds-words-col
-offset_bounds-words-col c = omega (arith, within c.before.before.before, c.requires.summed.room)
+offset_bounds-words-col c = omega (arith, within (goal.at.offset_bounds-words-col c).Start, c.requires.summed.room)
 
 pub bounds-words-col : goal.bounds-words-col
-bounds-words-col c = part_place c.args.sums.now _ c.args.col (omega (arith, within c.before.before.before.before, c.requires.summed.room))
+bounds-words-col c = part_place c.args.sums.now _ c.args.col (omega (arith, within (goal.at.bounds-words-col c).Start, c.requires.summed.room))
 
 pub returns : goal.returns
 returns c =

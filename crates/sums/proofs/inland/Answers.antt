@@ -5,13 +5,8 @@ use native.Mathlib.Omega.{arith}
 use Rattle.sums.specs.Sums.{rectangle_population}
 use Rattle.sums.specs.State.{table_map}
 use Rattle.sums.proofs.Laws.{rectangle_cut}
-use Rattle.sums.proofs.inland.Lts as lts
-use Rattle.sums.proofs.inland.Reads as reads
-use Rattle.sums.proofs.inland.Tie as tie
 use Rattle.sums.proofs.inland.Goals as goal
-
-abbrev After-strip-2 : Type 0
-After-strip-2 = lts.After-strip2 tie.the-claims reads.Pre reads.Post tie.handed_clauses
+use Rattle.sums.proofs.inland.Goals.{After-strip-2}
 
 apart : (c : After-strip-2) → let a = c.args in
     c.strip.result ≡ c.strip-2.result + rectangle_population (table_map a.grid a.sums.now) a.rows a.west a.end
@@ -28,7 +23,7 @@ strip-requires-2 c =
     let p = c.requires in record { summed = p.summed; strip_on_table = record { ordered = p.inland_on_table.ordered; south = p.inland_on_table.south; col = omega (arith, p.inland_on_table.west, p.inland_on_table.end) } }
 
 pub overflow_sub-result : goal.overflow_sub-result
-overflow_sub-result c = omega (arith, apart c.before)
+overflow_sub-result c = omega (arith, apart c)
 
 pub returns : goal.returns
-returns c = omega (arith, apart c.before)
+returns c = omega (arith, apart c)

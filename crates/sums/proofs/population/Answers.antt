@@ -6,13 +6,8 @@ use Rattle.grid.specs.Map.{Map}
 use Rattle.sums.specs.State.{table_map}
 use Rattle.sums.proofs.Laws.{rectangle_total}
 use Rattle.sums.proofs.Bands.{rows_of, band_plain, band_seam}
-use Rattle.sums.proofs.population.Lts as lts
-use Rattle.sums.proofs.population.Reads as reads
-use Rattle.sums.proofs.population.Tie as tie
 use Rattle.sums.proofs.population.Goals as goal
-
-abbrev Start : Type 0
-Start = lts.Start tie.the-claims reads.Pre reads.Post tie.handed_clauses
+use Rattle.sums.proofs.population.Goals.{Start}
 
 -- the map, and from the test to the start where the span goes across the seam
 abbrev M : Start → Map
@@ -27,7 +22,7 @@ pub returns-then-west-east : goal.returns-then-west-east
 returns-then-west-east c =
     let a = c.args in
     let on = c.requires.on_table in
-    rw c.inland.ensures (sym (band_plain (M c.before.before.before.before.before) a.band a.span on.ordered on.south (omega (arith, c.if-west-east.true)) on.east))
+    rw c.inland.ensures (sym (band_plain (M (goal.at.returns-then-west-east c).Start) a.band a.span on.ordered on.south (omega (arith, c.if-west-east.true)) on.east))
 
 pub inland-requires-2 : goal.inland-requires-2
 inland-requires-2 c =
@@ -47,8 +42,8 @@ overflow_add-result c =
     let rows = rows_of a.band in
     omega (
       arith,
-      rectangle_total (M c.before.before.before.before.before.before) rows a.span.west.0 a.grid.width (omega (arith, on.ordered)) (omega (arith, on.south)) (omega (arith, on.west)) (omega arith),
-      rectangle_total (M c.before.before.before.before.before.before) rows 0 (a.span.east.0 + 1) (omega (arith, on.ordered)) (omega (arith, on.south)) zero-le (omega (arith, on.east)),
+      rectangle_total (M (goal.at.overflow_add-result c).Start) rows a.span.west.0 a.grid.width (omega (arith, on.ordered)) (omega (arith, on.south)) (omega (arith, on.west)) (omega arith),
+      rectangle_total (M (goal.at.overflow_add-result c).Start) rows 0 (a.span.east.0 + 1) (omega (arith, on.ordered)) (omega (arith, on.south)) zero-le (omega (arith, on.east)),
       c.requires.summed.exact,
       c.inland-2.ensures,
       c.strip.ensures,
@@ -59,4 +54,4 @@ returns c =
     let a = c.args in
     let on = c.requires.on_table in
     rw (c.inland-2.ensures, c.strip.ensures)
-    (sym (band_seam (M c.before.before.before.before.before.before) a.band a.span on.ordered on.south (omega (arith, c.if-west-east.false)) on.west))
+    (sym (band_seam (M (goal.at.returns c).Start) a.band a.span on.ordered on.south (omega (arith, c.if-west-east.false)) on.west))

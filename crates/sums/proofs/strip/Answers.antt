@@ -5,13 +5,8 @@ use native.Mathlib.Omega.{arith}
 use Rattle.sums.specs.Sums.{rectangle_population}
 use Rattle.sums.specs.State.{table_map}
 use Rattle.sums.proofs.Laws.{corner_rows}
-use Rattle.sums.proofs.strip.Lts as lts
-use Rattle.sums.proofs.strip.Reads as reads
-use Rattle.sums.proofs.strip.Tie as tie
 use Rattle.sums.proofs.strip.Goals as goal
-
-abbrev After-corner-above : Type 0
-After-corner-above = lts.After-corner2 tie.the-claims reads.Pre reads.Post tie.handed_clauses
+use Rattle.sums.proofs.strip.Goals.{After-corner-above}
 
 apart : (c : After-corner-above) → let a = c.args in
     c.corner-below.result ≡ c.corner-above.result + rectangle_population (table_map a.grid a.sums.now) a.rows 0 a.col
@@ -27,7 +22,7 @@ corner-above-requires c =
     let p = c.requires in record { summed = p.summed; at_corner = record { row = omega (arith, p.strip_on_table.ordered, p.strip_on_table.south); col = p.strip_on_table.col } }
 
 pub overflow_sub-result : goal.overflow_sub-result
-overflow_sub-result c = omega (arith, apart c.before)
+overflow_sub-result c = omega (arith, apart c)
 
 pub returns : goal.returns
-returns c = omega (arith, apart c.before)
+returns c = omega (arith, apart c)

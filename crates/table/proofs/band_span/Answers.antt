@@ -7,19 +7,8 @@ use Rattle.grid.specs.Grid.{closing}
 use Rattle.grid.specs.Map.{Map}
 use Rattle.sums.specs.State.{table_map}
 use Rattle.sums.proofs.Bands.{around_turn, around_inland, around_west, around_east}
-use Rattle.table.proofs.band_span.Lts as lts
-use Rattle.table.proofs.band_span.Reads as reads
-use Rattle.table.proofs.band_span.Tie as tie
 use Rattle.table.proofs.band_span.Goals as goal
-
-abbrev Else-full_turn : Type 0
-Else-full_turn = lts.Else1 tie.the-claims reads.Pre reads.Post tie.handed_clauses
-
-abbrev Start : Type 0
-Start = lts.Start tie.the-claims reads.Pre reads.Post tie.handed_clauses
-
-abbrev Then-full_turn : Type 0
-Then-full_turn = lts.Then1 tie.the-claims reads.Pre reads.Post tie.handed_clauses
+use Rattle.table.proofs.band_span.Goals.{Else-full_turn, Start, Then-full_turn}
 
 abbrev M : Start → Map
 M s = table_map s.args.grid s.args.sums.now
@@ -39,25 +28,25 @@ strip-requires c =
 pub returns-then-full_turn : goal.returns-then-full_turn
 returns-then-full_turn c =
     let a = c.args in
-    rw c.strip.ensures (sym (around_turn (M c.before.before.before.before.before.before.before.before) a.band a.centre a.half c.requires.in_table.ordered c.requires.in_table.south (turn c.before.before)))
+    rw c.strip.ensures (sym (around_turn (M (goal.at.returns-then-full_turn c).Start) a.band a.centre a.half c.requires.in_table.ordered c.requires.in_table.south (turn (goal.at.returns-then-full_turn c).Then-full_turn)))
 
 pub overflow_add-east : goal.overflow_add-east
-overflow_add-east c = let less = short c.before.before in omega arith
+overflow_add-east c = let less = short (goal.at.overflow_add-east c).Else-full_turn in omega arith
 
 pub overflow_sub-centre : goal.overflow_sub-centre
-overflow_sub-centre c = let less = short c.before.before.before.before.before in omega arith
+overflow_sub-centre c = let less = short (goal.at.overflow_sub-centre c).Else-full_turn in omega arith
 
 pub population_at-requires : goal.population_at-requires
 population_at-requires c =
     let p = c.requires in
-    let on = p.in_table in record { summed = p.summed; on_table = record { ordered = on.ordered; south = on.south; west = omega (arith, c.if-centre-half.true); east = omega (arith, on.col, short c.before.before.before.before.before) } }
+    let on = p.in_table in record { summed = p.summed; on_table = record { ordered = on.ordered; south = on.south; west = omega (arith, c.if-centre-half.true); east = omega (arith, on.col, short (goal.at.population_at-requires c).Else-full_turn) } }
 
 pub returns-then-centre-half : goal.returns-then-centre-half
 returns-then-centre-half c =
     let a = c.args in
     let on = c.requires.in_table in
     rw c.population_at.ensures
-    (sym (around_west (M c.before.before.before.before.before.before.before.before.before.before.before.before) a.band a.centre a.half on.ordered on.south on.col (short c.before.before.before.before.before.before) c.if-centre-half.true))
+    (sym (around_west (M (goal.at.returns-then-centre-half c).Start) a.band a.centre a.half on.ordered on.south on.col (short (goal.at.returns-then-centre-half c).Else-full_turn) c.if-centre-half.true))
 
 pub population_at-requires-then-east-width : goal.population_at-requires-then-east-width
 population_at-requires-then-east-width c =
@@ -69,16 +58,16 @@ returns-then-east-width c =
     let a = c.args in
     let on = c.requires.in_table in
     rw c.population_at-then-east-width.ensures
-    (sym (around_inland (M c.before.before.before.before.before.before.before.before.before.before.before.before.before) a.band a.centre a.half on.ordered on.south on.col (short c.before.before.before.before.before.before.before) c.if-centre-half.false c.if-east-width.true))
+    (sym (around_inland (M (goal.at.returns-then-east-width c).Start) a.band a.centre a.half on.ordered on.south on.col (short (goal.at.returns-then-east-width c).Else-full_turn) c.if-centre-half.false c.if-east-width.true))
 
 pub population_at-requires-2 : goal.population_at-requires-2
 population_at-requires-2 c =
     let p = c.requires in
-    let on = p.in_table in record { summed = p.summed; on_table = record { ordered = on.ordered; south = on.south; west = omega (arith, on.col); east = omega (arith, on.col, short c.before.before.before.before.before.before) } }
+    let on = p.in_table in record { summed = p.summed; on_table = record { ordered = on.ordered; south = on.south; west = omega (arith, on.col); east = omega (arith, on.col, short (goal.at.population_at-requires-2 c).Else-full_turn) } }
 
 pub returns : goal.returns
 returns c =
     let a = c.args in
     let on = c.requires.in_table in
     rw c.population_at-2.ensures
-    (sym (around_east (M c.before.before.before.before.before.before.before.before.before.before.before.before.before) a.band a.centre a.half on.ordered on.south on.col (short c.before.before.before.before.before.before.before) c.if-centre-half.false c.if-east-width.false))
+    (sym (around_east (M (goal.at.returns c).Start) a.band a.centre a.half on.ordered on.south on.col (short (goal.at.returns c).Else-full_turn) c.if-centre-half.false c.if-east-width.false))

@@ -5,13 +5,8 @@ use Rattle.grid.specs.declared.Cell.{Cell}
 use Rattle.grid.specs.Grid.{before}
 use borrow.Author.Tests.{lt-ltb, le-ltb}
 use Rattle.candidates.specs.Candidate.{better, centre_of}
-use Rattle.candidates.proofs.compare.better.Lts as lts
-use Rattle.candidates.proofs.compare.better.Reads as reads
-use Rattle.candidates.proofs.compare.better.Tie as tie
 use Rattle.candidates.proofs.compare.better.Goals as goal
-
-abbrev After-before-2 : Type 0
-After-before-2 = lts.After-before2 tie.the-claims reads.Pre reads.Post
+use Rattle.candidates.proofs.compare.better.Goals.{After-before-2}
 
 -- what the comparison of two places said, of the cells that these are
 tested : (x y x' y' : Cell) (r b : Bool) → x ≡ x' → y ≡ y' → r ≡ before x y → r ≡ b → before x' y' ≡ b
@@ -34,7 +29,7 @@ unfolding better
 returns-then-d-c c = rw (le-ltb _ _ c.if-c-d.false, lt-ltb _ _ c.if-d-c.true)
 
 pub returns-then-before : goal.returns-then-before
-returns-then-before c = tied c.before true c.if-before.true
+returns-then-before c = tied (goal.at.returns-then-before c).After-before-2 true c.if-before.true
 
 pub returns-else-before : goal.returns-else-before
-returns-else-before c = tied c.before false c.if-before.false
+returns-else-before c = tied (goal.at.returns-else-before c).After-before-2 false c.if-before.false

@@ -8,13 +8,8 @@ use Rattle.candidates.specs.Candidate.{better_held}
 use Rattle.tally.specs.declared.SearchStats.{SearchStats}
 use Rattle.tally.specs.Counts.{stats, tally, plus}
 use Rattle.chunk_work.proofs.Added.{plus_light, added_light, one_few, wide_few, exact_few, evaluated_is}
-use Rattle.chunk_work.proofs.work.evaluated.Lts as lts
-use Rattle.chunk_work.proofs.work.evaluated.Reads as reads
-use Rattle.chunk_work.proofs.work.evaluated.Tie as tie
 use Rattle.chunk_work.proofs.work.evaluated.Goals as goal
-
-abbrev After-exact_built : Type 0
-After-exact_built = lts.After-exact_built tie.the-claims reads.Pre reads.Post
+use Rattle.chunk_work.proofs.work.evaluated.Goals.{After-exact_built}
 
 few : (c : After-exact_built) → c.wide_built.result + c.exact_built.result ≤ 2
 few c =
@@ -29,7 +24,7 @@ plus-tally-requires c =
     let cells = c.settled in
     rw (c.of-more.ensures, c.of-stats.ensures)
     (plus_light c.args.work.tally _ c.requires.light
-    (added_light 1 0 1 _ 0 cells.result (omega arith) (omega arith) (omega arith) (few c.before.before.before) (omega arith) (one_few cells.result _ cells.ensures)))
+    (added_light 1 0 1 _ 0 cells.result (omega arith) (omega arith) (omega arith) (few (goal.at.plus-tally-requires c).After-exact_built) (omega arith) (one_few cells.result _ cells.ensures)))
 
 pub returns : goal.returns
 returns c =

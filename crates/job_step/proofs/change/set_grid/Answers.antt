@@ -4,13 +4,8 @@ use mathlib.Core.Bool.{true}
 use Rattle.grid.proofs.General.{said_no, said_yes}
 use Rattle.job_sizes.specs.Sizes.{size_taken}
 use Rattle.job_rules.proofs.Commands.{grid_large, grid_refused, grid_begins}
-use Rattle.job_step.proofs.change.set_grid.Lts as lts
-use Rattle.job_step.proofs.change.set_grid.Reads as reads
-use Rattle.job_step.proofs.change.set_grid.Tie as tie
 use Rattle.job_step.proofs.change.set_grid.Goals as goal
-
-abbrev After-grid_refusal-refusal : Type 0
-After-grid_refusal-refusal = lts.After-grid_refusal tie.the-claims reads.Pre reads.Post
+use Rattle.job_step.proofs.change.set_grid.Goals.{After-grid_refusal-refusal}
 
 taken : (c : After-grid_refusal-refusal) → size_taken c.args.grid ≡ true
 taken c = said_yes c.size_taken.ensures c.if-not-size_taken.false
@@ -23,9 +18,9 @@ returns-then-not-size_taken c =
 pub returns-then-refusal-gt0 : goal.returns-then-refusal-gt0
 returns-then-refusal-gt0 c =
     let a = c.args in
-    c.refuse-then-refusal-gt0.ensures ∙ grid_refused a.state a.grid (taken c.before.before) _ c.grid_refusal-refusal.ensures c.if-refusal-gt0.true
+    c.refuse-then-refusal-gt0.ensures ∙ grid_refused a.state a.grid (taken (goal.at.returns-then-refusal-gt0 c).After-grid_refusal-refusal) _ c.grid_refusal-refusal.ensures c.if-refusal-gt0.true
 
 pub returns : goal.returns
 returns c =
     let a = c.args in
-    c.changed.ensures ∙ grid_begins a.state a.grid (taken c.before.before.before.before) _ c.grid_refusal-refusal.ensures c.if-refusal-gt0.false c.with_grid.ensures
+    c.changed.ensures ∙ grid_begins a.state a.grid (taken (goal.at.returns c).After-grid_refusal-refusal) _ c.grid_refusal-refusal.ensures c.if-refusal-gt0.false c.with_grid.ensures

@@ -9,13 +9,8 @@ use Rattle.reach.specs.Reach.{row_places}
 use Rattle.kernel.specs.State.{run_in}
 use Rattle.reach.proofs.Walks.{filled_none, filled_before}
 use Rattle.kernel.proofs.RowRuns.{run_next, run_onward}
-use Rattle.kernel.proofs.runs.mark.Lts as lts
-use Rattle.kernel.proofs.runs.mark.Reads as reads
-use Rattle.kernel.proofs.runs.mark.Tie as tie
 use Rattle.kernel.proofs.runs.mark.Goals as goal
-
-abbrev After-run_of-to : Type 0
-After-run_of-to = lts.After-run_of tie.the-claims reads.Pre reads.Post goal.the-invariant-loop-row goal.the-decreases-loop-row tie.handed_clauses
+use Rattle.kernel.proofs.runs.mark.Goals.{After-run_of-to}
 
 -- the run of the row that is next
 module _ (c : After-run_of-to) where
@@ -47,10 +42,10 @@ pub run_of-to-requires : goal.run_of-to-requires
 run_of-to-requires c = omega (arith, c.requires.outlined.on, c.loop-row.invariant.2)
 
 pub overflow_cast-runs : goal.overflow_cast-runs
-overflow_cast-runs c = omega (arith, small c.before)
+overflow_cast-runs c = omega (arith, small c)
 
 pub bounds-runs-row : goal.bounds-runs-row
-bounds-runs-row c = room c.before
+bounds-runs-row c = room c
 
 pub loop-row-preserved : goal.loop-row-preserved
 loop-row-preserved c =
@@ -58,11 +53,11 @@ loop-row-preserved c =
       simp length-set l.invariant.0,
       omega arith,
       omega (arith, l.invariant.2),
-      small c.before,
+      small c,
       refl,
-      λ h. marked c.before,
-      filled_before l.invariant.6 (l.row - 1) c.run_of-to.result (room c.before) (marked c.before)
-          (omega (arith, marked c.before, run_onward (λ r. get_or c.args.reaches.now r 0) (row_places - (l.row - 1)) (l.row - 1))) (omega arith),
+      λ h. marked c,
+      filled_before l.invariant.6 (l.row - 1) c.run_of-to.result (room c) (marked c)
+          (omega (arith, marked c, run_onward (λ r. get_or c.args.reaches.now r 0) (row_places - (l.row - 1)) (l.row - 1))) (omega arith),
     )
 
 pub returns : goal.returns

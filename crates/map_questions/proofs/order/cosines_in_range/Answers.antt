@@ -7,13 +7,8 @@ use Rattle.lists.proofs.All.{all_none, all_more, all_fails}
 use Rattle.grid.specs.Map.{cosine_at}
 use Rattle.grid.specs.Questions.{every_row, cosine_in_range, cosines_in_range}
 use Rattle.map_questions.proofs.order.cosines_in_range.Invariants.{ranged}
-use Rattle.map_questions.proofs.order.cosines_in_range.Lts as lts
-use Rattle.map_questions.proofs.order.cosines_in_range.Reads as reads
-use Rattle.map_questions.proofs.order.cosines_in_range.Tie as tie
 use Rattle.map_questions.proofs.order.cosines_in_range.Goals as goal
-
-abbrev Start : Type 0
-Start = lts.Start tie.the-claims reads.Pre reads.Post goal.the-invariant-loop-i goal.the-decreases-loop-i
+use Rattle.map_questions.proofs.order.cosines_in_range.Goals.{Start}
 
 abbrev tested : Start → ℕ → Bool
 tested s = ranged s.args.cosines.now
@@ -32,12 +27,12 @@ loop-i-smaller c = omega arith
 
 pub loop-i-preserved : goal.loop-i-preserved
 loop-i-preserved c =
-    (omega arith, all_more c.loop-i.i (tested c.before.before.before.before.before.before.before) c.loop-i.invariant.1 (sym c.cosine_in_range.ensures ∙ c.if-cosine_in_range.true))
+    (omega arith, all_more c.loop-i.i (tested (goal.at.loop-i-preserved c).Start) c.loop-i.invariant.1 (sym c.cosine_in_range.ensures ∙ c.if-cosine_in_range.true))
 
 pub returns-else-cosine_in_range : goal.returns-else-cosine_in_range
 unfolding every_row cosine_in_range cosines_in_range cosine_at
 returns-else-cosine_in_range c =
-    sym (all_fails c.args.grid.height (tested c.before.before.before.before.before.before.before) c.loop-i.i (omega (arith, c.requires))
+    sym (all_fails c.args.grid.height (tested (goal.at.returns-else-cosine_in_range c).Start) c.loop-i.i (omega (arith, c.requires))
     (sym c.cosine_in_range.ensures ∙ c.if-cosine_in_range.false))
 
 pub returns : goal.returns

@@ -10,16 +10,8 @@ use Rattle.grid.proofs.Answers.{asked_yes, asked_no, asked_none, refused_before,
 use Rattle.grid.proofs.Found.{radius_within}
 use Rattle.grid.proofs.Radii.{within_range, beyond_range, radius_left, refusal_left}
 use Rattle.most_populous.specs.Call.{buffers_fit, search_questions}
-use Rattle.most_populous.proofs.call.search_asked.Lts as lts
-use Rattle.most_populous.proofs.call.search_asked.Reads as reads
-use Rattle.most_populous.proofs.call.search_asked.Tie as tie
 use Rattle.most_populous.proofs.call.search_asked.Goals as goal
-
-abbrev Else-refusal-ne0 : Type 0
-Else-refusal-ne0 = lts.Else1 tie.the-claims reads.Pre reads.Post
-
-abbrev Else-not-buffers_fit : Type 0
-Else-not-buffers_fit = lts.Else2 tie.the-claims reads.Pre reads.Post
+use Rattle.most_populous.proofs.call.search_asked.Goals.{Else-refusal-ne0, Else-not-buffers_fit}
 
 map-yes : (e : Else-refusal-ne0) → let a = e.args in first_no (map_questions (lent_map a.grid a.counts.now a.angles.now a.cosines.now)) ≡ 0
 map-yes e = sym e.map_refusal-refusal.ensures ∙ e.if-refusal-ne0.false
@@ -35,28 +27,28 @@ returns-then-refusal-ne0 c = refusal_left _ _ _ (refused_before _ _ c.map_refusa
 pub returns-then-not-buffers_fit : goal.returns-then-not-buffers_fit
 unfolding search_questions
 returns-then-not-buffers_fit c =
-    refusal_left 7 _ _ (after_map _ _ (map-yes c.before.before.before) (asked_no _ (said_no c.buffers_fit.ensures c.if-not-buffers_fit.true)))
+    refusal_left 7 _ _ (after_map _ _ (map-yes (goal.at.returns-then-not-buffers_fit c).Else-refusal-ne0) (asked_no _ (said_no c.buffers_fit.ensures c.if-not-buffers_fit.true)))
     (λ z. omega (arith, z))
 
 pub returns-then-not-spacing_given : goal.returns-then-not-spacing_given
 unfolding search_questions
 returns-then-not-spacing_given c =
     refusal_left 10 _ _
-    (after_map _ _ (map-yes c.before.before.before.before.before.before.before)
-    (asked_yes 7 _ (fits c.before.before.before.before.before) (asked_yes 8 _ (within_range _ _ _ (sym c.new.ensures ∙ c.in-Within.is)) (asked_no _ (said_no c.spacing_given.ensures c.if-not-spacing_given.true)))))
+    (after_map _ _ (map-yes (goal.at.returns-then-not-spacing_given c).Else-refusal-ne0)
+    (asked_yes 7 _ (fits (goal.at.returns-then-not-spacing_given c).Else-not-buffers_fit) (asked_yes 8 _ (within_range _ _ _ (sym c.new.ensures ∙ c.in-Within.is)) (asked_no _ (said_no c.spacing_given.ensures c.if-not-spacing_given.true)))))
     (λ z. omega (arith, z))
 
 pub returns-in-Beyond : goal.returns-in-Beyond
 unfolding search_questions
 returns-in-Beyond c =
     refusal_left 8 _ _
-    (after_map _ _ (map-yes c.before.before.before.before.before) (asked_yes 7 _ (fits c.before.before.before) (asked_no _ (beyond_range _ _ (sym c.new.ensures ∙ c.in-Beyond.is)))))
+    (after_map _ _ (map-yes (goal.at.returns-in-Beyond c).Else-refusal-ne0) (asked_yes 7 _ (fits (goal.at.returns-in-Beyond c).Else-not-buffers_fit) (asked_no _ (beyond_range _ _ (sym c.new.ensures ∙ c.in-Beyond.is)))))
     (λ z. omega (arith, z))
 
 pub returns-else-not-spacing_given : goal.returns-else-not-spacing_given
 unfolding search_questions
 returns-else-not-spacing_given c =
     radius_left _ _ _
-    (after_map _ _ (map-yes c.before.before.before.before.before.before.before)
-    (asked_yes 7 _ (fits c.before.before.before.before.before) (asked_yes 8 _ (within_range _ _ _ (sym c.new.ensures ∙ c.in-Within.is)) (asked_yes 10 _ (said_yes c.spacing_given.ensures c.if-not-spacing_given.false) asked_none))))
+    (after_map _ _ (map-yes (goal.at.returns-else-not-spacing_given c).Else-refusal-ne0)
+    (asked_yes 7 _ (fits (goal.at.returns-else-not-spacing_given c).Else-not-buffers_fit) (asked_yes 8 _ (within_range _ _ _ (sym c.new.ensures ∙ c.in-Within.is)) (asked_yes 10 _ (said_yes c.spacing_given.ensures c.if-not-spacing_given.false) asked_none))))
     (radius_within _ _ _ (sym c.new.ensures ∙ c.in-Within.is)).1

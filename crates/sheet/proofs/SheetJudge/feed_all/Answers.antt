@@ -12,13 +12,8 @@ use Rattle.grid.specs.Grid.{closing}
 use Rattle.sheet.specs.Judge.{judge_feed}
 use Rattle.sheet.proofs.Judging.{grid_kept}
 use Rattle.sheet.proofs.Runs.{ahead}
-use Rattle.sheet.proofs.SheetJudge.feed_all.Lts as lts
-use Rattle.sheet.proofs.SheetJudge.feed_all.Reads as reads
-use Rattle.sheet.proofs.SheetJudge.feed_all.Tie as tie
 use Rattle.sheet.proofs.SheetJudge.feed_all.Goals as goal
-
-abbrev Then-run_ahead : Type 0
-Then-run_ahead = lts.Then1 tie.the-claims reads.Pre reads.Post goal.the-invariant-loop-at goal.the-decreases-loop-at
+use Rattle.sheet.proofs.SheetJudge.feed_all.Goals.{Then-run_ahead}
 
 pub loop-at-init : goal.loop-at-init
 unfolding fold
@@ -45,34 +40,34 @@ module _ (c : Then-run_ahead) where
   cut = omega arith
 
 pub overflow_add-at : goal.overflow_add-at
-overflow_add-at c = omega (arith, parts c.before)
+overflow_add-at c = omega (arith, parts c)
 
 pub slice_bounds-feed_run-start : goal.slice_bounds-feed_run-start
-slice_bounds-feed_run-start c = omega (arith, parts c.before)
+slice_bounds-feed_run-start c = omega (arith, parts c)
 
 pub slice_bounds-feed_run-end : goal.slice_bounds-feed_run-end
-slice_bounds-feed_run-end c = omega (arith, parts c.before)
+slice_bounds-feed_run-end c = omega (arith, parts c)
 
 pub feed_run-judge-requires : goal.feed_run-judge-requires
 feed_run-judge-requires c =
-    let p = parts c.before.before in
-    rw (cut c.before.before)
-    (record { fresh = p.0; on = p.1; size = length-take-le (run c.before.before) (drop c.loop-at.at (xs c.before.before)) (rw length-drop (omega (arith, p.3))) ∙ p.2 })
+    let p = parts (goal.at.feed_run-judge-requires c).Then-run_ahead in
+    rw (cut (goal.at.feed_run-judge-requires c).Then-run_ahead)
+    (record { fresh = p.0; on = p.1; size = length-take-le (run (goal.at.feed_run-judge-requires c).Then-run_ahead) (drop c.loop-at.at (xs (goal.at.feed_run-judge-requires c).Then-run_ahead)) (rw length-drop (omega (arith, p.3))) ∙ p.2 })
 
 pub overflow_add-at-then-run_ahead : goal.overflow_add-at-then-run_ahead
-overflow_add-at-then-run_ahead c = omega (arith, parts c.before.before.before)
+overflow_add-at-then-run_ahead c = omega (arith, parts (goal.at.overflow_add-at-then-run_ahead c).Then-run_ahead)
 
 pub loop-at-smaller-then-run_ahead : goal.loop-at-smaller-then-run_ahead
-loop-at-smaller-then-run_ahead c = omega (arith, parts c.before.before.before)
+loop-at-smaller-then-run_ahead c = omega (arith, parts (goal.at.loop-at-smaller-then-run_ahead c).Then-run_ahead)
 
 pub loop-at-preserved-then-run_ahead : goal.loop-at-preserved-then-run_ahead
 loop-at-preserved-then-run_ahead c =
     let at = c.loop-at.at in (
-      (parts c.before.before.before).3,
+      (parts (goal.at.loop-at-preserved-then-run_ahead c).Then-run_ahead).3,
       c.feed_run-judge.ensures
-          ∙ ap (λ n. fold judge_feed c.loop-at.judge (take n (drop at (xs c.before.before.before)))) (cut c.before.before.before)
-          ∙ ap (λ j. fold judge_feed j (take (run c.before.before.before) (drop at (xs c.before.before.before)))) c.loop-at.invariant.1
-          ∙ fold_more judge_feed c.args.self (xs c.before.before.before) at (run c.before.before.before),
+          ∙ ap (λ n. fold judge_feed c.loop-at.judge (take n (drop at (xs (goal.at.loop-at-preserved-then-run_ahead c).Then-run_ahead)))) (cut (goal.at.loop-at-preserved-then-run_ahead c).Then-run_ahead)
+          ∙ ap (λ j. fold judge_feed j (take (run (goal.at.loop-at-preserved-then-run_ahead c).Then-run_ahead) (drop at (xs (goal.at.loop-at-preserved-then-run_ahead c).Then-run_ahead)))) c.loop-at.invariant.1
+          ∙ fold_more judge_feed c.args.self (xs (goal.at.loop-at-preserved-then-run_ahead c).Then-run_ahead) at (run (goal.at.loop-at-preserved-then-run_ahead c).Then-run_ahead),
     )
 
 pub loop-at-smaller : goal.loop-at-smaller
