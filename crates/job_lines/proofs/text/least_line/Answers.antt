@@ -5,16 +5,8 @@ use Rattle.job_lines.proofs.Texts.{len_longer, begun_len, line_four}
 use Prim.Native.Nat.{◌+◌, ◌*◌, ◌≤◌}
 use mathlib.Core.List.{[], ◌∷◌}
 use Rattle.job_lines.specs.Line.{longest_field, least_word, newline, least_line}
-use Rattle.job_lines.proofs.text.least_line.Lts as lts
-use Rattle.job_lines.proofs.text.least_line.Reads as reads
-use Rattle.job_lines.proofs.text.least_line.Tie as tie
 use Rattle.job_lines.proofs.text.least_line.Goals as goal
-
-abbrev After-add_short-shown : Type 0
-After-add_short-shown = lts.After-add_short tie.the-claims reads.Pre reads.Post
-
-abbrev After-begin_line-begun : Type 0
-After-begin_line-begun = lts.After-begin_line tie.the-claims reads.Pre reads.Post
+use Rattle.job_lines.proofs.text.least_line.Goals.{After-begin_line-begun, After-add_short-shown}
 
 -- the line as far as its first numbers
 begun-short : (c : After-begin_line-begun) → c.begin_line-begun.result.len ≤ 5 + 4 * longest_field
@@ -27,20 +19,23 @@ begun-short c =
 short-len : (c : After-add_short-shown) → c.add_short-shown.result.len ≤ 5 + 6 * longest_field
 short-len c =
     let begun = c.begin_line-begun in
-    let short-len = len_longer begun.result c.add_short-shown.result _ c.add_short-shown.ensures in
-    omega (arith, begun-short c.before, short-len, length_short c.args.found.short_below)
+    let found = c.args.found in
+    let centre = found.centre in
+    let begun-len = begun_len begun.result least_word (found.radius_km.0 ∷ centre.row.0 ∷ centre.col.0 ∷ centre.population ∷ []) begun.ensures in
+    let longer = len_longer begun.result c.add_short-shown.result _ c.add_short-shown.ensures in
+    omega (arith, begun-len, longer, length_short found.short_below)
 
 pub add_short-shown-requires : goal.add_short-shown-requires
-add_short-shown-requires c = omega (arith, begun-short c)
+add_short-shown-requires c = omega (arith, begun-short (goal.at.add_short-shown-requires c).After-begin_line-begun)
 
 pub add_fields-requires : goal.add_fields-requires
-add_fields-requires c = omega (arith, short-len c.before)
+add_fields-requires c = omega (arith, short-len (goal.at.add_fields-requires c).After-add_short-shown)
 
 pub end_line-requires : goal.end_line-requires
 end_line-requires c =
     let all-len = len_longer c.add_short-shown.result c.add_fields.result _ c.add_fields.ensures in
     let stats = c.args.found.stats in
-    omega (arith, short-len c.before.before, all-len, length_fields (stats.radii_evaluated ∷ stats.radii_reused ∷ []))
+    omega (arith, short-len (goal.at.end_line-requires c).After-add_short-shown, all-len, length_fields (stats.radii_evaluated ∷ stats.radii_reused ∷ []))
 
 pub returns : goal.returns
 unfolding least_line

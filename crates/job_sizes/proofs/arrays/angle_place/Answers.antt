@@ -4,19 +4,11 @@ use native.Mathlib.Omega.{arith}
 use Rattle.lists.proofs.Sums.{times_le}
 use Rattle.job_sizes.proofs.Held.{pair_beyond, angle_within, angle_beyond}
 use Rattle.job_sizes.specs.Sizes.{job_angles}
-use Rattle.job_sizes.proofs.arrays.angle_place.Lts as lts
-use Rattle.job_sizes.proofs.arrays.angle_place.Reads as reads
-use Rattle.job_sizes.proofs.arrays.angle_place.Tie as tie
 use Rattle.job_sizes.proofs.arrays.angle_place.Goals as goal
-
-abbrev After-closing : Type 0
-After-closing = lts.After-closing tie.the-claims reads.Pre reads.Post
-
-abbrev After-struct_known-2-1 : Type 0
-After-struct_known-2-1 = lts.After-struct_known2 tie.the-claims reads.Pre reads.Post
+use Rattle.job_sizes.proofs.arrays.angle_place.Goals.{Start, After-closing}
 
 -- sizes of 32 bits, and two rows that the array has with an offset
-pair_small : (k : After-struct_known-2-1) → let a = k.args in a.centre.0 * a.grid.height ≤ 4294967295 * 4294967295
+pair_small : (k : Start) → let a = k.args in a.centre.0 * a.grid.height ≤ 4294967295 * 4294967295
 pair_small k = let a = k.args in times_le a.centre.0 a.grid.height 4294967295 4294967295 (omega arith) (omega arith)
 
 place-small : (k : After-closing) → let a = k.args in
@@ -26,10 +18,10 @@ place-small k =
     times_le (a.centre.0 * a.grid.height + a.row.0) (k.closing.result + 1) job_angles 4294967296 (omega arith) (omega arith)
 
 pub overflow_mul-pair : goal.overflow_mul-pair
-overflow_mul-pair c = omega (arith, pair_small c)
+overflow_mul-pair c = omega (arith, pair_small (goal.at.overflow_mul-pair c).Start)
 
 pub overflow_add-pair : goal.overflow_add-pair
-overflow_add-pair c = omega (arith, pair_small c.before)
+overflow_add-pair c = omega (arith, pair_small (goal.at.overflow_add-pair c).Start)
 
 pub returns-then-pair-ge-ANGLES : goal.returns-then-pair-ge-ANGLES
 returns-then-pair-ge-ANGLES c =
@@ -37,10 +29,10 @@ returns-then-pair-ge-ANGLES c =
     pair_beyond a.grid a.centre a.row a.offset c.if-pair-ge-ANGLES.true
 
 pub overflow_mul-place : goal.overflow_mul-place
-overflow_mul-place c = omega (arith, place-small c)
+overflow_mul-place c = omega (arith, place-small (goal.at.overflow_mul-place c).After-closing)
 
 pub overflow_add-place-2 : goal.overflow_add-place-2
-overflow_add-place-2 c = omega (arith, place-small c)
+overflow_add-place-2 c = omega (arith, place-small (goal.at.overflow_add-place-2 c).After-closing)
 
 pub returns-then-place-lt-ANGLES : goal.returns-then-place-lt-ANGLES
 returns-then-place-lt-ANGLES c =

@@ -9,25 +9,17 @@ use Rattle.reach.specs.State.{passes}
 use Rattle.reach.proofs.Reaches.{sheet_wide}
 use Rattle.reach.proofs.Edges.{place_of, place_fits_lem, edge_reach}
 use borrow.Author.Rules.{rules}
-use Rattle.reach.proofs.outward.reach_by_halves.Lts as lts
-use Rattle.reach.proofs.outward.reach_by_halves.Reads as reads
-use Rattle.reach.proofs.outward.reach_by_halves.Tie as tie
 use Rattle.reach.proofs.outward.reach_by_halves.Goals as goal
+use Rattle.reach.proofs.outward.reach_by_halves.Goals.{In-loop-low}
 
-abbrev At-loop-low : Type 0
-At-loop-low = lts.At-loop tie.the-claims reads.Pre reads.Post goal.the-invariant-loop-low goal.the-decreases-loop-low
-
-abbrev In-loop-low : Type 0
-In-loop-low = lts.In-loop tie.the-claims reads.Pre reads.Post goal.the-invariant-loop-low goal.the-decreases-loop-low
-
--- where a turn stands: what the search began with, the row's first place, and the middle, whose place is in the sheet
-module _ (at : At-loop-low) where
+-- the middle, whose place is in the sheet
+module _ (c : In-loop-low) where
   abbrev middle : ℕ
-  middle = at.loop-low.low + (at.loop-low.high - at.loop-low.low) / 2
+  middle = c.loop-low.low + (c.loop-low.high - c.loop-low.low) / 2
 
-fits : (c : In-loop-low) → c.sheet_index-first.result + middle c.before < length c.args.angles.now
-unfolding closing
-fits c = let l = c.loop-low in place_fits_lem c.requires c.sheet_index-first.ensures (middle c.before) (omega arith)
+  fits : c.sheet_index-first.result + middle < length c.args.angles.now
+  unfolding closing
+  fits = let l = c.loop-low in place_fits_lem c.requires c.sheet_index-first.ensures middle (omega arith)
 
 pub sheet_index-first-requires : goal.sheet_index-first-requires
 sheet_index-first-requires c = place_of c.requires 0 (omega arith)
@@ -36,13 +28,13 @@ pub loop-low-init : goal.loop-low-init
 loop-low-init c = (search rules, search rules, (λ h. absurd (omega arith)), (λ h. absurd (omega arith)))
 
 pub overflow_add-first : goal.overflow_add-first
-overflow_add-first c = omega (arith, fits c.before, c.well_formed.1.0)
+overflow_add-first c = omega (arith, fits (goal.at.overflow_add-first c).In-loop-low, c.well_formed.1.0)
 
 pub offset_bounds-angles-first : goal.offset_bounds-angles-first
-offset_bounds-angles-first c = let h = fits c.before in search rules
+offset_bounds-angles-first c = let h = fits (goal.at.offset_bounds-angles-first c).In-loop-low in search rules
 
 pub bounds-angles-first : goal.bounds-angles-first
-bounds-angles-first c = let h = fits c.before.before in search rules
+bounds-angles-first c = let h = fits (goal.at.bounds-angles-first c).In-loop-low in search rules
 
 pub loop-low-preserved-then-within : goal.loop-low-preserved-then-within
 loop-low-preserved-then-within c =
