@@ -1,9 +1,8 @@
 -- What a test or a refusal has said: for the proofs of functions that ask.
 use Prim.Native.Nat.{ℕ, ◌≤◌}
 use mathlib.Core.Path.{◌≡◌, sym, ◌∙◌}
-use mathlib.Core.Bool.{Bool, true, false, not}
+use mathlib.Core.Bool.{Bool, true, false}
 use native.Mathlib.Omega.{arith}
-use borrow.Author.Tests.{not-true, not-false}
 
 -- what a function that returned r has said of d, where the code then tests `!r`
 pub said_no : {r d : Bool} → r ≡ d → r ≡ false → d ≡ false

@@ -1,7 +1,7 @@
 -- The places of a line and of a number's digits: what their types say of the arrays, as lengths.
 use mathlib.Core.Path.{◌≡◌}
 use mathlib.Core.List.{List}
-use lib.ListN.{length, length-map}
+use lib.ListN.{length}
 use mir.Val.{Val}
 use denote.Laws.{Is}
 use Rattle.job_lines.specs.declared.Digits.{Digits}

@@ -1,7 +1,7 @@
 -- The places of a state's arrays: what their types say, as lengths.
 use mathlib.Core.Path.{◌≡◌}
 use mathlib.Core.List.{List}
-use lib.ListN.{length, length-map}
+use lib.ListN.{length}
 use mir.Val.{Val}
 use denote.Laws.{Is}
 use Rattle.job_world.specs.declared.JobState.{JobState}

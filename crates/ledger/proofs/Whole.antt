@@ -1,7 +1,7 @@
 -- A ledger has 512 places: what its type says of the array, as a length.
 use mathlib.Core.Path.{◌≡◌}
 use mathlib.Core.List.{List}
-use lib.ListN.{length, length-map}
+use lib.ListN.{length}
 use mir.Val.{Val}
 use denote.Laws.{Is}
 use Rattle.ledger.specs.declared.Ledger.{Ledger}

@@ -32,7 +32,6 @@ use Rattle.blocks.proofs.Words.{rectangle_small}
 use Rattle.bounds.specs.Bound.{wide_km, bound}
 use Rattle.candidates.specs.Candidate.{candidate, prunes}
 use Rattle.chunk_work.specs.declared.ChunkWork.{ChunkWork}
-use Rattle.tally.specs.Counts.{tally}
 use Rattle.chunk_work.specs.Work.{wide_built, exact_built}
 use Rattle.levels.specs.Level.{pruned, evaluated, examine}
 use Rattle.tally.specs.State.{weight}

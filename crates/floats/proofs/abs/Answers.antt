@@ -8,10 +8,8 @@ returns-then-x c = rw (absolute_is c.args.x (of_true _ c.well_formed.0.1), c.if-
 
 pub returns-then-x-2 : goal.returns-then-x-2
 returns-then-x-2 c =
-    let start = c.before.before in
-    rw (absolute_is start.args.x (of_true _ start.well_formed.0.1), c.if-x.false, c.if-x-2.true)
+    rw (absolute_is c.args.x (of_true _ c.well_formed.0.1), c.if-x.false, c.if-x-2.true)
 
 pub returns : goal.returns
 returns c =
-    let start = c.before.before in
-    rw (absolute_is start.args.x (of_true _ start.well_formed.0.1), c.if-x.false, c.if-x-2.false)
+    rw (absolute_is c.args.x (of_true _ c.well_formed.0.1), c.if-x.false, c.if-x-2.false)

@@ -13,8 +13,7 @@ float_to_bits-b c = no_nan_of c.args.x c.if-x.false
 
 pub returns-then-b-eq9218868437227405312 : goal.returns-then-b-eq9218868437227405312
 returns-then-b-eq9218868437227405312 c =
-    let start = c.before.before in
-    sym (next_infinite start.args.x (of_true _ start.well_formed.0.1) c.if-b-eq9218868437227405312.true)
+    sym (next_infinite c.args.x (of_true _ c.well_formed.0.1) c.if-b-eq9218868437227405312.true)
 
 pub float_from_bits-result : goal.float_from_bits-result
 unfolding nan_bits
@@ -25,28 +24,24 @@ returns-then-x-2 c = sym (next_zero c.args.x c.if-x-2.true)
 
 pub float_from_bits-result-then-b-lt9223372036854775808 : goal.float_from_bits-result-then-b-lt9223372036854775808
 float_from_bits-result-then-b-lt9223372036854775808 c =
-    let start = c.before.before.before.before in
-    above_no_nan start.args.x (of_true _ start.well_formed.0.1) (no_nan_of start.args.x c.if-x.false)
+    above_no_nan c.args.x (of_true _ c.well_formed.0.1) (no_nan_of c.args.x c.if-x.false)
     c.if-b-eq9218868437227405312.false
     c.if-b-lt9223372036854775808.true
 
 pub returns-then-b-lt9223372036854775808 : goal.returns-then-b-lt9223372036854775808
 returns-then-b-lt9223372036854775808 c =
-    let start = c.before.before.before.before in
     sym
-    (next_above start.args.x (of_true _ start.well_formed.0.1) (no_nan_of start.args.x c.if-x.false)
+    (next_above c.args.x (of_true _ c.well_formed.0.1) (no_nan_of c.args.x c.if-x.false)
     c.if-b-eq9218868437227405312.false
     c.if-x-2.false c.if-b-lt9223372036854775808.true)
 
 pub float_from_bits-result-2 : goal.float_from_bits-result-2
 float_from_bits-result-2 c =
-    let start = c.before.before.before.before in
-    below_no_nan start.args.x (of_true _ start.well_formed.0.1) (no_nan_of start.args.x c.if-x.false)
+    below_no_nan c.args.x (of_true _ c.well_formed.0.1) (no_nan_of c.args.x c.if-x.false)
     c.if-x-2.false c.if-b-lt9223372036854775808.false
 
 pub returns : goal.returns
 returns c =
-    let start = c.before.before.before.before in
     sym
-    (next_below start.args.x (of_true _ start.well_formed.0.1) (no_nan_of start.args.x c.if-x.false)
+    (next_below c.args.x (of_true _ c.well_formed.0.1) (no_nan_of c.args.x c.if-x.false)
     c.if-x-2.false c.if-b-lt9223372036854775808.false)

@@ -1,7 +1,6 @@
 -- `sums_fill::fill_row`. Invariant: the words up to the next of the row are the map's, and the run is the sum of the row so far.
 use mathlib.Core.Path.{◌≡◌, refl, sym, ◌∙◌}
-use mathlib.Core.List.{List}
-use Prim.Native.Nat.{ℕ, suc, ◌+◌, ◌*◌, ◌-◌, ◌≤◌, ◌<◌, ◌^◌}
+use Prim.Native.Nat.{suc, ◌+◌, ◌*◌, ◌-◌, ◌≤◌, ◌^◌}
 use native.Mathlib.Omega.{arith}
 use native.Mathlib.Nat.{add-zero, suc-mul}
 use lib.ListN.{length, get_or, set, length-set}
@@ -10,7 +9,7 @@ use Rattle.lists.specs.Front.{over}
 use Rattle.lists.proofs.Sums.{sum_none, sum_plus_one}
 use Rattle.lists.proofs.Fronts.{over_step, over_fix, over_more}
 use Rattle.grid.specs.Grid.{most_columns, most_rows}
-use Rattle.grid.specs.Map.{Map, count}
+use Rattle.grid.specs.Map.{count}
 use Rattle.sums.specs.Sums.{sums_word}
 use Rattle.sums.specs.State.{counts_map}
 use Rattle.sums.proofs.Laws.{row_bound, corner_small}

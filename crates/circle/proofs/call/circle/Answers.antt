@@ -33,7 +33,7 @@ build-kernel-requires c = to_build _ _ _ _ (passed (goal.at.build-kernel-require
 
 pub circle_population-population-requires : goal.circle_population-population-requires
 circle_population-population-requires c =
-    rows_placed (to_sum _ _ _ _ (passed (goal.at.circle_population-population-requires c).In-Radius) _ c.fill_sums.ensures _ (left (goal.at.circle_population-population-requires c).In-Radius).1 _ c.build-kernel.ensures (λ i. (c.shared_slice_known-1.given i).fits))
+    rows_placed (to_sum _ _ _ _ (passed (goal.at.circle_population-population-requires c).In-Radius) _ c.fill_sums.ensures _ (left (goal.at.circle_population-population-requires c).In-Radius).1 _ c.build-kernel.ensures (λ i. (c.type_inv.counts i).fits))
 
 pub returns-in-Radius : goal.returns-in-Radius
 unfolding circle_answer

@@ -1,5 +1,4 @@
 -- What is lent, then the call.
-use borrow.Author.Rules.{rules}
 use Rattle.test_lines.proofs.Words.{front_count}
 use Rattle.test_cases.proofs.Fronts.{lent_arrays, circle_back}
 use Rattle.test_cases.proofs.calls.circle.Goals as goal

@@ -1,5 +1,4 @@
 -- Each number by its place.
-use borrow.Author.Rules.{rules}
 use Rattle.test_cases.proofs.map.grid_of.Goals as goal
 
 pub returns : goal.returns

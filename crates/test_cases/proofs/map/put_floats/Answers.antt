@@ -1,13 +1,11 @@
 -- Invariant: the places before i are put.
-use Prim.Native.Nat.{◌-◌, ◌≤◌}
+use Prim.Native.Nat.{◌-◌}
 use mathlib.Core.Path.{◌≡◌, refl, sym, ap, ◌∙◌}
 use native.Mathlib.Omega.{arith}
 use lib.ListN.{length}
 use lib.Ieee.{binary64, of_bits}
 use borrow.Author.Rules.{rules}
-use Rattle.lists.specs.Front.{over}
 use Rattle.lists.proofs.Fronts.{over_none, over_step}
-use Rattle.test_lines.specs.Numbers.{or_last}
 use Rattle.test_cases.proofs.map.put_floats.Goals as goal
 
 pub loop-i-init : goal.loop-i-init

@@ -1,12 +1,9 @@
 -- Invariant: the places before i are put.
 use Prim.Native.Nat.{◌-◌, ◌≤◌}
-use mathlib.Core.Path.{◌≡◌, refl, sym, ap, ◌∙◌}
-use native.Mathlib.Omega.{arith}
+use mathlib.Core.Path.{◌≡◌}
 use lib.ListN.{length}
 use lib.Ieee.{binary64, of_bits}
-use borrow.Author.Rules.{rules}
 use Rattle.lists.specs.Front.{over}
-use Rattle.lists.proofs.Fronts.{over_none, over_step}
 use Rattle.test_lines.specs.Numbers.{or_last}
 use Rattle.test_cases.proofs.map.put_floats.Given as goal
 

@@ -1,5 +1,4 @@
 -- Each way out by the letter.
-use borrow.Author.Rules.{rules}
 use borrow.Author.Tests.{eq-eqb, ne_eqb}
 use Rattle.test_cases.specs.Board.{board_set}
 use Rattle.test_cases.proofs.map.set.Goals as goal
