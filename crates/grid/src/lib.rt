@@ -16,20 +16,20 @@ pub const MOST_COLUMNS: u32 = 180;
 pub const MOST_ROWS: u32 = 90;
 
 // A row and a column by number: types of their own, so that neither serves as the other.
-#[derive(Clone, Copy)]
+#[derive(Clone, Copy, PartialEq, Eq, PartialOrd, Ord)]
 pub struct Row(pub u32);
 
-#[derive(Clone, Copy)]
+#[derive(Clone, Copy, PartialEq, Eq, PartialOrd, Ord)]
 pub struct Col(pub u32);
 
-#[derive(Clone, Copy)]
+#[derive(Clone, Copy, PartialEq, Eq, PartialOrd, Ord)]
 pub struct Cell {
     pub row: Row,
     pub col: Col,
 }
 
 // A radius in whole kilometres.
-#[derive(Clone, Copy)]
+#[derive(Clone, Copy, PartialEq, Eq, PartialOrd, Ord)]
 pub struct RadiusKm(pub u32);
 
 // Rows go south by index where the latitude step is below 0, columns go around the ring. No longitude is kept: distances read differences alone.

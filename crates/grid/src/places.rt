@@ -63,14 +63,7 @@ pub fn cells(grid: Grid) -> u64
 pub fn before(x: Cell, y: Cell) -> bool
     ensures { result ≡ before x y }
 {
-    if x.row.0 < y.row.0 {
-        return true;
-    }
-    if x.row.0 == y.row.0 {
-        x.col.0 < y.col.0
-    } else {
-        false
-    }
+    x < y
 }
 
 // The largest column distance around the ring: from there on columns come nearer on the other side.
