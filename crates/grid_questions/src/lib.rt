@@ -2,10 +2,11 @@
 #![tactic(auto)]
 
 ghost use Rattle.std.specs.Prelude.{◌≡◌};
-ghost use Rattle.grid.specs.Answer.{first_no};
+ghost use Rattle.grid.specs.Answer.{first_no, decide};
+ghost use Rattle.grid.specs.Refusal.{answer_of};
 ghost use Rattle.grid.specs.Questions.{sizes_in_range, latitude_in_range, latitudes_in_range, columns_close, grid_questions};
 
-use grid::Grid;
+use grid::{Grid, Refusal};
 
 // What edges and turns may be off by, in degrees. A step is a rounded decimal, so that rows that end at a pole may end a little past it,
 // and columns that make a turn may miss 360 by a little; being wrong by a cell is far more than this.
@@ -63,18 +64,19 @@ pub fn columns_close(grid: Grid) -> bool
     floats::abs(grid.width as f64 * floats::abs(grid.lon_step) - 360.0) <= ROUNDING
 }
 
-// The number of the first of the questions 1 to 3 that is answered no, or 0.
-pub fn grid_refusal(grid: Grid) -> u32
-    ensures { result ≡ first_no (grid_questions grid) }
+// The first of the questions 1 to 3 that is answered no.
+#[tactic(auto, unfolding(grid::specs::Questions::grid_questions, grid::specs::Answer::first_no, grid::specs::Answer::decide))]
+pub fn grid_asked(grid: Grid) -> Result<(), Refusal>
+    ensures { answer_of result ≡ decide (first_no (grid_questions grid)) tt }
 {
     if !sizes_in_range(grid) {
-        return 1;
+        return Err(Refusal::Sizes);
     }
     if !latitudes_in_range(grid) {
-        return 2;
+        return Err(Refusal::Latitudes);
     }
     if !columns_close(grid) {
-        return 3;
+        return Err(Refusal::Columns);
     }
-    0
+    Ok(())
 }
