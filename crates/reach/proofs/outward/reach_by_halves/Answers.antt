@@ -1,60 +1,55 @@
--- `reach::outward::reach_by_halves`. Invariant: the offset before low is within the angle and the one at high is not, if they were tested.
-use Prim.Native.Nat.{ℕ, ◌+◌, ◌-◌, ◌/◌, ◌<◌}
-use mathlib.Core.Path.{◌≡◌, sym, ap, ◌∙◌}
-use native.Mathlib.Nat.{add-sub_cancel}
-use native.Mathlib.Omega.{arith}
-use lib.ListN.{length}
-use Rattle.grid.specs.Grid.{closing}
-use Rattle.reach.specs.State.{passes}
+-- The row's part of the sheet, whose angles do not fall.
+use Rattle.std.proofs.Common.{◌≡◌, ℕ, ◌+◌, ◌/◌, ◌-◌, ◌<◌, arith, rules, take, drop, length, get_or, List}
+use Rattle.std.proofs.lemmas.List.Sorted.{IsPartitionPoint-from_clause}
+use Rattle.std.proofs.lemmas.Grind.{common_steps}
+use Rattle.std.specs.Float.Ieee.{le}
+use lib.Ieee.{Float, nan}
+use borrow.Author.Tests.{tests}
 use Rattle.reach.proofs.Reaches.{sheet_wide}
-use Rattle.reach.proofs.Edges.{place_of, place_fits_lem, edge_reach}
-use borrow.Author.Rules.{rules}
+use Rattle.reach.proofs.Edges.{place_of, row_fits, row_rises, row_halved}
 use Rattle.reach.proofs.outward.reach_by_halves.Goals as goal
-use Rattle.reach.proofs.outward.reach_by_halves.Goals.{In-loop-low}
-
--- the middle, whose place is in the sheet
-module _ (c : In-loop-low) where
-  abbrev middle : ℕ
-  middle = c.loop-low.low + (c.loop-low.high - c.loop-low.low) / 2
-
-  fits : c.sheet_index-first.result + middle < length c.args.angles.now
-  unfolding closing
-  fits = let l = c.loop-low in place_fits_lem c.requires c.sheet_index-first.ensures middle (omega arith)
+use Rattle.reach.proofs.outward.reach_by_halves.Goals.{After-partition_point}
 
 pub sheet_index-first-requires : goal.sheet_index-first-requires
 sheet_index-first-requires c = place_of c.requires 0 (omega arith)
 
-pub loop-low-init : goal.loop-low-init
-loop-low-init c = (search rules, search rules, (λ h. absurd (omega arith)), (λ h. absurd (omega arith)))
+pub overflow_add-end : goal.overflow_add-end
+overflow_add-end c = let h = row_fits c.requires c.sheet_index-first.ensures (c.args.grid.width / 2) (omega arith) in search rules
 
-pub overflow_add-first : goal.overflow_add-first
-overflow_add-first c = omega (arith, fits (goal.at.overflow_add-first c).In-loop-low, c.well_formed.1.0)
+pub overflow_add-end-2 : goal.overflow_add-end-2
+overflow_add-end-2 c = let h = row_fits c.requires c.sheet_index-first.ensures (c.args.grid.width / 2) (omega arith) in search rules
 
 pub offset_bounds-angles-first : goal.offset_bounds-angles-first
-offset_bounds-angles-first c = let h = fits (goal.at.offset_bounds-angles-first c).In-loop-low in search rules
+offset_bounds-angles-first c = let h = row_fits c.requires c.sheet_index-first.ensures (c.args.grid.width / 2) (omega arith) in search rules
 
-pub bounds-angles-first : goal.bounds-angles-first
-bounds-angles-first c = let h = fits (goal.at.bounds-angles-first c).In-loop-low in search rules
+pub slice_bounds-partition_point-end : goal.slice_bounds-partition_point-end
+slice_bounds-partition_point-end c = let h = row_fits c.requires c.sheet_index-first.ensures (c.args.grid.width / 2) (omega arith) in search rules
 
-pub loop-low-preserved-then-within : goal.loop-low-preserved-then-within
-loop-low-preserved-then-within c =
-    let l = c.loop-low in
-    (search rules, search rules, λ h. rw add-sub_cancel (sym c.within.ensures ∙ c.if-within.true), l.invariant.3)
+module _ (c : After-partition_point) where
+  abbrev first : ℕ
+  first = c.sheet_index-first.result
 
-pub loop-low-preserved : goal.loop-low-preserved
-loop-low-preserved c =
-    let l = c.loop-low in
-    (search rules, search rules, l.invariant.2, λ h. sym c.within.ensures ∙ c.if-within.false)
+  abbrev row : List Float
+  row = take (first + c.args.grid.width / 2 + 1 - first) (drop first c.args.angles.now)
+
+  long : length row ≡ c.args.grid.width / 2 + 1
+  long =
+      let h = row_fits c.requires c.sheet_index-first.ensures (c.args.grid.width / 2) (omega arith) in
+      grind (arith, common_steps)
+
+  same : (k : ℕ) (d : Float) → k < length row → get_or row k d ≡ get_or c.args.angles.now (first + k) nan
+  same k d l =
+      let h = row_fits c.requires c.sheet_index-first.ensures (c.args.grid.width / 2) (omega arith) in
+      grind (arith, common_steps)
 
 pub overflow_cast-result : goal.overflow_cast-result
-unfolding closing
-overflow_cast-result c = let l = c.loop-low in omega (arith, sheet_wide c.requires.sheet)
+overflow_cast-result c = omega (arith, c.partition_point.ensures.bound, long c, sheet_wide c.requires.sheet)
 
 pub returns : goal.returns
-unfolding closing
 returns c =
-    let l = c.loop-low in
-    let met : l.low ≡ l.high = omega arith in
-    let test = passes c.args.angles.now c.sheet_index-first.result c.args.limit in
-    edge_reach c.requires c.sheet_index-first.ensures c.args.limit l.low
-    (record { from = omega arith; to = omega arith; passed = l.invariant.2; failed = λ h. ap test met ∙ l.invariant.3 (omega arith) })
+    let p = c.requires in
+    let e = c.sheet_index-first.ensures in
+    let limit = c.args.limit in
+    row_halved p e limit (row c) (long c) (same c) _ c.partition_point.ensures.bound
+    (IsPartitionPoint-from_clause (λ y. le y limit) (row c) _ c.partition_point.ensures.partitioned (row_rises p e limit (row c) (long c) (same c))
+    (λ a r f k. search (rules, tests)))
