@@ -5,7 +5,8 @@ use mathlib.Core.Bool.{Bool, true, false}
 use mathlib.Core.List.{List}
 use native.Mathlib.Decide.{dec_lt}
 use native.Mathlib.Omega.{arith}
-use lib.ListN.{length, get_or}
+use lib.ListN.{length, get_or, take, drop}
+use Rattle.std.proofs.lemmas.Grind.{common_steps}
 use lib.Ieee.{Float, le, nan}
 use Rattle.std.specs.List.Sorted.{IsPartitionedBy, IsPartitionPoint}
 use Rattle.grid.specs.declared.Row.{Row}
@@ -55,6 +56,16 @@ module _ {g : Grid} {angles : List Float} {c r : Row} (p : PairOnSheet g angles 
     unfolding sheet_index closing
     row_fits k l = omega (arith, e, place_in g c r k (place_of k l), sheet_length p.sheet)
 
+    pub last_fits : first + g.width / 2 < length angles
+    last_fits = row_fits (g.width / 2) (omega arith)
+
+    -- the row by itself, as code cuts it out
+    abbrev pub row_part : List Float
+    row_part = take (first + g.width / 2 + 1 - first) (drop first angles)
+
+    pub row_length : length row_part ≡ g.width / 2 + 1
+    row_length = let h = last_fits in grind (arith, common_steps)
+
     module _ (limit : Float) where
       abbrev s : Globe
       s = globe_of g angles p.sheet.cosines
@@ -70,23 +81,29 @@ module _ {g : Grid} {angles : List Float} {c r : Row} (p : PairOnSheet g angles 
           (record { from = d.from; to = d.to; passed = λ h. passes_is (n - 1) ∙ d.passed h; failed = λ h. passes_is n ∙ d.failed h }))
           ∙ reach_sheet g angles p.sheet.cosines c r limit
 
-      -- the angles of the row by themselves, none of which falls
-      module _ (xs : List Float) (n : length xs ≡ g.width / 2 + 1)
-          (same : (k : ℕ) (d : Float) → k < length xs → get_or xs k d ≡ get_or angles (first + k) nan) where
-        pub row_rises : IsPartitionedBy (λ y. le y limit) xs
-        unfolding closing
-        row_rises i j d h l e =
-            rw (same i d (omega arith))
-            (sym (passes_is i)
-            ∙ inside_first s (sheet_order p.sheet) c.0 p.centre_on limit r.0 p.row_on i j h (omega arith) (passes_is j ∙ sym (ap (λ y. le y limit) (same j d l)) ∙ e))
+      -- the angles of the row do not fall, and where they leave the limit the reach ends
+      same : (k : ℕ) → (d : Float) → k < length row_part → get_or row_part k d ≡ get_or angles (first + k) nan
+      same k d l = let h = last_fits in grind (arith, common_steps)
 
-        pub row_halved : (k : ℕ) → k ≤ length xs → IsPartitionPoint (λ y. le y limit ≡ true) (λ y. le y limit ≡ false) xs k
-            → k ≡ reach (sheet_of g angles) c r limit
-        row_halved k l (below, above) =
-            row_reach k
-            (record {
-              from = omega arith;
-              to = omega arith;
-              passed = λ h. sym (ap (λ y. le y limit) (same (k - 1) nan (omega arith))) ∙ below (k - 1) nan (omega arith) (omega arith);
-              failed = λ h. sym (ap (λ y. le y limit) (same k nan (omega arith))) ∙ above k nan (omega arith) (omega arith);
-            })
+      pub row_rises : IsPartitionedBy (λ y. le y limit) row_part
+      unfolding closing
+      row_rises i j d h l e =
+          let on : j ≤ g.width / 2 = omega (arith, row_length) in
+          rw (same i d (omega arith))
+          (sym (passes_is i)
+          ∙ inside_first s (sheet_order p.sheet) c.0 p.centre_on limit r.0 p.row_on i j h (omega arith)
+          (passes_is j ∙ sym (ap (λ y. le y limit) (same j d l)) ∙ e))
+
+      pub row_halved : (k : ℕ) → k ≤ length row_part → IsPartitionPoint (λ y. le y limit ≡ true) (λ y. le y limit ≡ false) row_part k
+          → k ≡ reach (sheet_of g angles) c r limit
+      row_halved k l (below, above) =
+          let on : k ≤ g.width / 2 + 1 = omega (arith, row_length) in
+          row_reach k
+          (record {
+            from = omega arith;
+            to = on;
+            passed = λ h. sym (ap (λ y. le y limit) (same (k - 1) nan (omega arith))) ∙ below (k - 1) nan (omega arith) (omega arith);
+            failed = λ h.
+                let u : k < length row_part = omega (arith, row_length) in
+                sym (ap (λ y. le y limit) (same k nan u)) ∙ above k nan (omega arith) u;
+          })

@@ -1,21 +1,21 @@
 -- Each of the three results is where the offsets within the angle end.
-use Rattle.std.proofs.Common.{◌∙◌, ◌/◌, sym, arith, rules}
+use Rattle.std.proofs.Common.{◌∙◌, sym, arith, rules}
 use Rattle.std.proofs.Math.Nat.{add-sub_cancel}
 use Rattle.reach.proofs.Reaches.{sheet_wide}
-use Rattle.reach.proofs.Edges.{edge_wider, place_of, row_fits, row_reach}
+use Rattle.reach.proofs.Edges.{edge_wider, place_of, row_fits, last_fits, row_reach}
 use Rattle.reach.proofs.outward.reach_of.Goals as goal
 
 pub sheet_index-first-requires : goal.sheet_index-first-requires
 sheet_index-first-requires c = place_of c.requires 0 (omega arith)
 
 pub overflow_add-first : goal.overflow_add-first
-overflow_add-first c = let h = row_fits c.requires c.sheet_index-first.ensures (c.args.grid.width / 2) (omega arith) in search rules
+overflow_add-first c = let h = last_fits c.requires c.sheet_index-first.ensures in search rules
 
 pub offset_bounds-angles-first : goal.offset_bounds-angles-first
-offset_bounds-angles-first c = let h = row_fits c.requires c.sheet_index-first.ensures (c.args.grid.width / 2) (omega arith) in search rules
+offset_bounds-angles-first c = let h = last_fits c.requires c.sheet_index-first.ensures in search rules
 
 pub bounds-angles-first : goal.bounds-angles-first
-bounds-angles-first c = row_fits c.requires c.sheet_index-first.ensures _ (omega arith)
+bounds-angles-first c = last_fits c.requires c.sheet_index-first.ensures
 
 pub overflow_cast-result : goal.overflow_cast-result
 overflow_cast-result c = omega (arith, sheet_wide c.requires.sheet)
@@ -43,7 +43,7 @@ pub bounds-angles-first-2 : goal.bounds-angles-first-2
 bounds-angles-first-2 c = row_fits c.requires c.sheet_index-first.ensures _ (omega arith)
 
 pub grown-requires-clause-end_in_bounds : goal.grown-requires-clause-end_in_bounds
-grown-requires-clause-end_in_bounds c = omega (arith, row_fits c.requires c.sheet_index-first.ensures (c.args.grid.width / 2) (omega arith))
+grown-requires-clause-end_in_bounds c = omega (arith, last_fits c.requires c.sheet_index-first.ensures)
 
 pub overflow_cast-result-then-within-2 : goal.overflow_cast-result-then-within-2
 overflow_cast-result-then-within-2 c = omega (arith, c.grown.ensures.to, sheet_wide c.requires.sheet)
