@@ -1,5 +1,5 @@
 -- The run of each row follows from the row below it.
-use Rattle.std.proofs.Common.{◌≡◌, ◌∙◌, ◌+◌, ◌-◌, ◌<◌, ◌≤◌, refl, sym, arith, eqb, length, get_or}
+use Rattle.std.proofs.Common.{◌≡◌, ◌∙◌, ◌+◌, ◌-◌, ◌≤◌, refl, sym, arith, eqb, get_or}
 use Rattle.lists.proofs.Bools.{cond_case}
 use Rattle.reach.specs.Reach.{row_places}
 use Rattle.reach.proofs.Walks.{filled_none, filled_before}
