@@ -203,9 +203,9 @@ module _ {A : Type 0} (a : A) where
   unfolding first_no
   says_yes k qs e h = rw e h
 
-  pub says_all : answered a ≡ decide (first_no []) a
+  pub says_all : {x : A} → x ≡ a → answered x ≡ decide (first_no []) a
   unfolding first_no decide
-  says_all = refl
+  says_all e = rw e
 
 -- and one list after another
 

@@ -34,6 +34,10 @@ module _ (g : Grid) (km : ℕ) where
   unfolding radius_found
   radius_within r e = let p = cond_some _ _ _ e in (p.0, cc)
 
+  pub radius_is : (r : RadiusKm) → radius_found g km ≡ Some r → r ≡ record { 0 = km }
+  unfolding radius_found
+  radius_is r e = rw (cond_some _ _ _ e).1
+
   pub radius_beyond : radius_found g km ≡ None → leb km (ceiling g) ≡ false
   unfolding radius_found
   radius_beyond e = cond_none _ _ e
