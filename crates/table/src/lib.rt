@@ -35,6 +35,7 @@ pub fn population<'a>(table: Table<'a>, band: RowBand, span: ColSpan) -> u64
 }
 
 // The people of the whole extent: the last corner.
+#[tactic(auto, unfolding(sums::specs::Sums::total))]
 pub fn whole<'a>(table: Table<'a>) -> u64
     requires { Summed table.grid table.sums.now }
     ensures { result ≡ total (table_map table.entry.grid table.entry.sums.now) }
@@ -63,6 +64,7 @@ pub fn whole_at(grid: Grid, sums: &[u64]) -> u64
 }
 
 // Half the width and more: every column. Asked by the sum, from which the compiler knows, where it is no full turn, how a span's ends lie.
+#[tactic(auto, unfolding(grid::specs::Grid::closing))]
 fn full_turn(grid: Grid, half: u32) -> bool
     requires { half < 2 ^ 31 }
     ensures { result ≡ leb (closing grid) half }

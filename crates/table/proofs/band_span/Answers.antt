@@ -21,17 +21,10 @@ short : (c : Else-full_turn) → let a = c.args in a.half < a.grid.width / 2
 unfolding closing
 short c = leb-false _ _ (sym c.full_turn.ensures ∙ c.if-full_turn.false)
 
-pub strip-requires : goal.strip-requires
-strip-requires c =
-    let p = c.requires in record { summed = p.summed; strip_on_table = record { ordered = omega (arith, p.in_table.ordered); south = omega (arith, p.in_table.south); col = omega arith } }
-
 pub returns-then-full_turn : goal.returns-then-full_turn
 returns-then-full_turn c =
     let a = c.args in
     rw c.strip.ensures (sym (around_turn (M (goal.at.returns-then-full_turn c).Start) a.band a.centre a.half c.requires.in_table.ordered c.requires.in_table.south (turn (goal.at.returns-then-full_turn c).Then-full_turn)))
-
-pub overflow_add-east : goal.overflow_add-east
-overflow_add-east c = let less = short (goal.at.overflow_add-east c).Else-full_turn in omega arith
 
 pub overflow_sub-centre : goal.overflow_sub-centre
 overflow_sub-centre c = let less = short (goal.at.overflow_sub-centre c).Else-full_turn in omega arith
@@ -48,22 +41,12 @@ returns-then-centre-half c =
     rw c.population_at.ensures
     (sym (around_west (M (goal.at.returns-then-centre-half c).Start) a.band a.centre a.half on.ordered on.south on.col (short (goal.at.returns-then-centre-half c).Else-full_turn) c.if-centre-half.true))
 
-pub population_at-requires-then-east-width : goal.population_at-requires-then-east-width
-population_at-requires-then-east-width c =
-    let p = c.requires in
-    let on = p.in_table in record { summed = p.summed; on_table = record { ordered = on.ordered; south = on.south; west = omega (arith, on.col); east = c.if-east-width.true } }
-
 pub returns-then-east-width : goal.returns-then-east-width
 returns-then-east-width c =
     let a = c.args in
     let on = c.requires.in_table in
     rw c.population_at-then-east-width.ensures
     (sym (around_inland (M (goal.at.returns-then-east-width c).Start) a.band a.centre a.half on.ordered on.south on.col (short (goal.at.returns-then-east-width c).Else-full_turn) c.if-centre-half.false c.if-east-width.true))
-
-pub population_at-requires-2 : goal.population_at-requires-2
-population_at-requires-2 c =
-    let p = c.requires in
-    let on = p.in_table in record { summed = p.summed; on_table = record { ordered = on.ordered; south = on.south; west = omega (arith, on.col); east = omega (arith, on.col, short (goal.at.population_at-requires-2 c).Else-full_turn) } }
 
 pub returns : goal.returns
 returns c =
