@@ -180,7 +180,8 @@ impl SheetJudge {
         self.next_row(run[run.len() - 1], run[0], well)
     }
 
-    // The sheet's next angles, as if fed one by one, whole runs at once: a sheet may come in pieces of any length.
+    // The sheet's next angles, as if fed one by one, whole runs at once: a sheet may come in pieces of any length. No `for` steps by a run or
+    // by one angle as the judge stands, so the place is counted.
     pub fn feed_all(self, angles: &[f64]) -> SheetJudge
         ensures { result ≡ fold judge_feed self angles.now }
     {

@@ -75,6 +75,7 @@ fn full_turn(grid: Grid, half: u32) -> bool
 // The people of a band's columns at most `half` from the centre column around the ring: those of a span, asked of the table. A full turn is no
 // span: its columns are counted once, by a strip that is read straight. The cases ask each for itself: so the compiler sees in each whether the
 // seam lies between the ends, and `population` does not test for it again, as it would if the ends were chosen first.
+#[tactic(auto, using(crate::proofs::Around::around), unfolding(grid::specs::Grid::closing))]
 pub fn band_span(grid: Grid, sums: &[u64], band: RowBand, centre: Col, half: u32) -> u64
     requires summed { Summed grid sums.now }
     requires in_table { InTable grid band centre half }
