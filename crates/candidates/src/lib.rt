@@ -31,10 +31,3 @@ impl Candidate {
         }
     }
 }
-
-// The best candidate so far, if there is one.
-#[derive(Clone, Copy)]
-pub enum Held {
-    Nobody,
-    Best(Candidate),
-}
