@@ -29,6 +29,7 @@ pub fn end_of(bracket: Bracket, state: RunState) -> RunEnd
 }
 
 // At the ceiling, where all radii fell short, every circle is the whole grid.
+#[tactic(auto, using(kernel::proofs::WholeGrid::kernel_covers_lem), unfolding(probes::specs::State::end_covers))]
 fn covers(grid: Grid, angles: &[f64], end: RunEnd) -> bool
     requires { OnSheet grid angles.now end.centre.row }
     ensures { result ≡ end_covers (sheet_of grid angles.now) end }
@@ -42,6 +43,7 @@ fn covers(grid: Grid, angles: &[f64], end: RunEnd) -> bool
 
 // The answer at the end of a run. The slack bounds how far rounding moves a population that is summed in binary64 row by row, as the original
 // sums it. It decides nothing: it tells which probes stand too close to the target to be sure of.
+#[tactic(auto, using(floats::proofs::Literals::literal_0), unfolding(probes::specs::State::answer_by))]
 pub fn conclude(
     grid: Grid,
     angles: &[f64],
