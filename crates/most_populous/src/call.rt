@@ -10,17 +10,14 @@ use grid::{Asked, Grid, RadiusFound, RadiusKm};
 use spacing::Spacing;
 
 // Question 7: room for the sums, and a word for each cell in both level buffers.
+#[tactic(auto, unfolding(crate::specs::Call::buffers_fit))]
 pub fn buffers_fit(grid: Grid, sums: &[u64], current: &[u64], following: &[u64]) -> bool
     ensures { result ≡ buffers_fit grid (buffers sums.now current.now following.now) }
 {
-    if !sums_fill::sums_fit(grid, sums) {
-        return false;
-    }
     let cells = grid::cells(grid);
-    if (current.len() as u64) < cells {
-        return false;
-    }
-    cells <= following.len() as u64
+    sums_fill::sums_fit(grid, sums)
+        && cells <= current.len() as u64
+        && cells <= following.len() as u64
 }
 
 // What the call's questions leave: its radius, or the number of the first that is answered no. Question 8 is the radius's constructor.
