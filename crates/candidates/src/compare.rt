@@ -15,13 +15,13 @@ fn centre_of(c: Candidate) -> Cell
 }
 
 // More people win; of as many, the first by row, then column, so that the winner does not hang on the order in which candidates are met.
-#[tactic(auto, unfolding(crate::specs::Candidate::better))]
+#[tactic(auto, unfolding(crate::specs::Candidate::better, grid::specs::Grid::before))]
 pub fn better(c: Candidate, d: Candidate) -> Candidate
     ensures { result ≡ better c d }
 {
     let more = c.population < d.population;
     let tied = c.population == d.population;
-    if more || tied && grid::before(centre_of(d), centre_of(c)) {
+    if more || tied && centre_of(d) < centre_of(c) {
         d
     } else {
         c

@@ -22,11 +22,9 @@ impl Candidate {
     pub fn at(cell: Cell, population: u64) -> Candidate
         ensures { result ≡ candidate_of cell population }
     {
-        let row = cell.row;
-        let col = cell.col;
         Candidate {
-            row,
-            col,
+            row: cell.row,
+            col: cell.col,
             population,
         }
     }
