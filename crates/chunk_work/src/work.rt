@@ -10,7 +10,7 @@ ghost use Rattle.chunk_work.specs.Requires.{CanCount};
 
 use crate::{ChunkWork, kept};
 use blocks::Block;
-use candidates::{Candidate, Held};
+use candidates::Candidate;
 use tally::{SearchStats, Tally};
 
 // A single cell that is evaluated is settled.
@@ -67,7 +67,7 @@ fn evaluated(work: ChunkWork, block: Block, wide: f64, population: u64) -> Chunk
     let counted = work.tally;
     let probe = blocks::probe(block);
     let row = probe.row;
-    let held = candidates::better_held(before, Held::Best(Candidate::at(probe, population)));
+    let held = candidates::better_held(before, Some(Candidate::at(probe, population)));
     let kernels = wide_built(work, block, wide) + exact_built(work, block);
     let stats = SearchStats::of(0, 1, 0, 1, kernels);
     let more = Tally::of(stats, 0, settled(block));

@@ -1,4 +1,5 @@
 -- The words of a smallest radius, and what its outcome gives at the boundary by the case of its answer.
+use Rattle.std.proofs.Common.{Option, None, Some}
 use mathlib.Core.Path.{◌≡◌, refl, ap}
 use mathlib.Core.List.{List, [], ◌∷◌, ◌++◌}
 use Prim.Native.Nat.{ℕ, ◌≤◌}
@@ -20,9 +21,7 @@ use Rattle.ledger.specs.declared.Ledger.{Ledger}
 use Rattle.ledger.specs.Ledger.{capacity}
 use Rattle.ledger.proofs.Laws.{places_free_lem}
 use Rattle.probes.specs.declared.Ambiguity.{Ambiguity}
-use Rattle.probes.specs.declared.Ambiguity.TheVariants as ambiguity-case
-use Rattle.probes.specs.declared.ShortBelow.{ShortBelow}
-use Rattle.probes.specs.declared.ShortBelow.TheVariants as short-case
+use Rattle.probes.specs.declared.Witness.{Witness}
 use Rattle.probes.specs.declared.Smallest.{Smallest}
 use Rattle.probes.specs.Smallest.{smallest}
 use Rattle.smallest_rules.specs.Call.{SmallestOutcome, smallest_questions, smallest_call}
@@ -35,15 +34,15 @@ use Rattle.words.proofs.Places.{counted_fits, fits_length}
 -- ---- the words
 
 -- the witness's three words and the ambiguity's four, read one by one
-laid : (short : ShortBelow) (within : Ambiguity) (covers km row col population : ℕ) (tail : List ℕ)
+laid : (short : Option Witness) (within : Option Ambiguity) (covers km row col population : ℕ) (tail : List ℕ)
     → km ∷ row ∷ col ∷ population ∷ word_at (short_words short) 0 ∷ word_at (short_words short) 1 ∷ word_at (short_words short) 2 ∷ covers
     ∷ word_at (ambiguity_words within) 0 ∷ word_at (ambiguity_words within) 1 ∷ word_at (ambiguity_words within) 2 ∷ word_at (ambiguity_words within) 3 ∷ tail
     ≡ km ∷ row ∷ col ∷ population ∷ [] ++ short_words short ++ covers ∷ [] ++ ambiguity_words within ++ tail
 unfolding short_words ambiguity_words
-laid (short-case.Witness k n) (ambiguity-case.Radii low high radii) covers km row col population tail = refl
-laid (short-case.Witness k n) ambiguity-case.Absent covers km row col population tail = refl
-laid short-case.Absent (ambiguity-case.Radii low high radii) covers km row col population tail = refl
-laid short-case.Absent ambiguity-case.Absent covers km row col population tail = refl
+laid (Some w) (Some a) covers km row col population tail = refl
+laid (Some w) None covers km row col population tail = refl
+laid None (Some a) covers km row col population tail = refl
+laid None None covers km row col population tail = refl
 
 pub words_laid : (a : Smallest) (short within : List ℕ) → short ≡ short_words a.short_below → within ≡ ambiguity_words a.ambiguity
     → a.radius_km.0 ∷ a.centre.row.0 ∷ a.centre.col.0 ∷ a.centre.population ∷ word_at short 0 ∷ word_at short 1 ∷ word_at short 2

@@ -1,6 +1,6 @@
 -- Demand 3, as stated: on an accepted map whose sheet is fair the search names the best circle, and a list of smallest-radius calls from a
 -- fresh ledger answers and keeps the ledger as the user asks.
-use Rattle.std.specs.Prelude.{ℕ, ◌+◌, ◌-◌, ◌^◌, ◌≤◌, ◌<◌, ◌≡◌, Bool, false, not, ◌&&◌, ◌||◌, List, [], ◌∷◌, length, get_or, T, eqb, Float}
+use Rattle.std.specs.Prelude.{ℕ, ◌+◌, ◌-◌, ◌^◌, ◌≤◌, ◌<◌, ◌≡◌, Bool, false, not, ◌&&◌, ◌||◌, List, [], ◌∷◌, length, get_or, T, eqb, Float, Option, Some}
 use Rattle.std.specs.Float.Ieee.{le}
 use Rattle.floats.specs.Binary.{whole}
 use Rattle.grid.specs.declared.Cell.{Cell}
@@ -24,11 +24,10 @@ use Rattle.ledger.specs.declared.Got.TheVariants.{Circle}
 use Rattle.ledger.specs.Ledger.{entries, no_entries, get, rising_from, places_free}
 use Rattle.climb.specs.Climb.{most_radii, Ended, all_short, reached_at}
 use Rattle.share.specs.Target.{share_in_range}
-use Rattle.probes.specs.declared.ShortBelow.{ShortBelow}
-use Rattle.probes.specs.declared.ShortBelow.TheVariants as short-case
+use Rattle.probes.specs.declared.Witness.{Witness}
 use Rattle.probes.specs.declared.Smallest.{Smallest}
 use Rattle.probes.specs.Probes.{Probe, Run, target_persons, smallest_run}
-use Rattle.probes.specs.Smallest.{smallest}
+use Rattle.probes.specs.Smallest.{smallest, witness}
 use Rattle.smallest_rules.specs.Call.{SmallestOutcome, smallest_call}
 
 -- ---- the map
@@ -86,10 +85,10 @@ ledger_after m l [] = l
 ledger_after m l (c ∷ cs) = ledger_after m (called m l c).ledger cs
 
 -- the short witness is a kilometre with the population of the best circle there
-pub record Witnessed (m : Map) (km : ℕ) (short : ShortBelow) : Type 0 where
+pub record Witnessed (m : Map) (km : ℕ) (short : Option Witness) : Type 0 where
   pub centre : Cell
   pub best : Best m km centre
-  pub is : short ≡ short-case.Witness (record { 0 = km }) (population m (whole km) centre)
+  pub is : short ≡ Some (witness km (population m (whole km) centre))
 
 -- an answered call, given the ledger l
 pub record AnsweredRight (m : Map) (l : Ledger) (c : Call) (a : Smallest) : Type 0 where

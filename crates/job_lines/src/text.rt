@@ -4,7 +4,7 @@ ghost use Rattle.job_lines.specs.Line.{longest_field, field, fields, newline, sh
 ghost use Rattle.job_lines.specs.State.{line_room, line_of, longer};
 
 use crate::{Line, decimal};
-use probes::{ShortBelow, Smallest};
+use probes::{Smallest, Witness};
 use search_rules::MostPopulous;
 
 // A line of no bytes: none.
@@ -112,16 +112,17 @@ pub fn most_line(found: MostPopulous) -> Line
 }
 
 // The witness's kilometre and population, or a dash for each: a number would say that there is a witness.
-fn add_short(line: Line, short: ShortBelow) -> Line
+#[tactic(auto, unfolding(crate::specs::Line::short_fields))]
+fn add_short(line: Line, short: Option<Witness>) -> Line
     requires { line.len + 2 * longest_field ≤ line_room }
     ensures { result ≡ longer line (short_fields short) }
 {
     match short {
-        ShortBelow::Witness { km, population } => {
-            let numbers = [km.0 as u64, population];
+        Some(short) => {
+            let numbers = [short.km.0 as u64, short.population];
             add_fields(line, &numbers)
         }
-        ShortBelow::Absent => {
+        None => {
             let dashes = [32u8, 45, 32, 45];
             append(line, &dashes)
         }

@@ -10,6 +10,7 @@ use search_rules::MostPopulous;
 use spacing::Spacing;
 
 // Question 7: room for the sums, and a word for each cell in both level buffers.
+#[tactic(auto, unfolding(crate::specs::Call::buffers_fit))]
 pub fn buffers_fit(grid: Grid, sums: &[u64], current: &[u64], following: &[u64]) -> bool
     ensures { result ≡ buffers_fit grid (buffers sums.now current.now following.now) }
 {

@@ -1,4 +1,5 @@
 -- What every probe keeps of a run's state and ledger: the ledger in order with room, and counts that stay small.
+use Rattle.std.proofs.Common.{Option, None, Some}
 use Prim.Native.Nat.{ℕ, ◌+◌, ◌≤◌, ◌<◌}
 use mathlib.Core.Path.{◌≡◌, refl}
 use mathlib.Core.Bool.{Bool, true, false}
@@ -23,7 +24,6 @@ use Rattle.ledger.proofs.Order.{len_put_most, put_in_order}
 use Rattle.climb.specs.Climb.{most_radii}
 use Rattle.share.specs.Target.{within_slack}
 use Rattle.probes.specs.declared.Ambiguity.{Ambiguity}
-use Rattle.probes.specs.declared.Ambiguity.TheVariants as ambiguity-case
 use Rattle.probes.specs.declared.RunState.{RunState}
 use Rattle.probes.specs.declared.SmallestStats.{SmallestStats}
 use Rattle.probes.specs.Smallest.{widened}
@@ -35,11 +35,11 @@ plus_weight : (s t : SearchStats) → stats_weight (plus_stats s t) ≡ stats_we
 unfolding stats_weight plus_stats
 plus_weight s t = omega arith
 
-radii_after : (within : Bool) (a : Ambiguity) (km : ℕ) → radii_of (ambiguity_after within a km) ≤ radii_of a + 1
+radii_after : (within : Bool) (a : Option Ambiguity) (km : ℕ) → radii_of (ambiguity_after within a km) ≤ radii_of a + 1
 unfolding ambiguity_after widened radii_of
 radii_after false a km = omega arith
-radii_after true ambiguity-case.Absent km = omega arith
-radii_after true (ambiguity-case.Radii low high n) km = omega arith
+radii_after true None km = omega arith
+radii_after true (Some a) km = omega arith
 
 -- ---- the state
 

@@ -1,4 +1,5 @@
 -- The state of a run against the definition's run: what it tracks of the probes.
+use Rattle.std.proofs.Common.{Option, Some}
 use Prim.Native.Nat.{ℕ, suc, ◌+◌}
 use mathlib.Core.Path.{◌≡◌, refl, sym, ap, ◌∙◌}
 use mathlib.Core.Bool.{Bool, true, false, cond, not, ◌&&◌}
@@ -22,11 +23,10 @@ use Rattle.ledger.specs.declared.Ledger.{Ledger}
 use Rattle.ledger.specs.Ledger.{entry, get, put}
 use Rattle.share.specs.Target.{reaches}
 use Rattle.probes.specs.declared.RunState.{RunState}
-use Rattle.probes.specs.declared.ShortBelow.{ShortBelow}
-use Rattle.probes.specs.declared.ShortBelow.TheVariants as short-case
+use Rattle.probes.specs.declared.Witness.{Witness}
 use Rattle.probes.specs.declared.SmallestStats.{SmallestStats}
 use Rattle.probes.specs.Probes.{Probe, Run, reused_at, searched_at, probed_with, probed, latest_of, latest, how_many, evaluated_in, reused_in, stats_of}
-use Rattle.probes.specs.Smallest.{short_below_of, ambiguity}
+use Rattle.probes.specs.Smallest.{short_below_of, ambiguity, witness}
 use Rattle.probes.specs.State.{counts, run_begun, reused_more, evaluated_more, short_after, ambiguity_after, noted, state_with, state_after, ledger_with, ledger_probed}
 
 -- a run that has not begun
@@ -63,8 +63,8 @@ plus_none s = simp add-zero
 
 -- ---- the witness
 
-abbrev told : Probe → ShortBelow
-told p = short-case.Witness (record { 0 = p.km }) p.centre.population
+abbrev told : Probe → Option Witness
+told p = Some (witness p.km p.centre.population)
 
 module _ (persons : Float) (p : Probe) (ps : List Probe) where
   -- a probe that reached is no witness
@@ -96,7 +96,7 @@ module _ (persons slack : Float) (low : ℕ) (r : Run) (l : Ledger) (s : RunStat
   unfolding noted short_after ambiguity_after ambiguity
   noted_tracks p l' t e =
       let reached = reaches persons p.centre in
-      let at : ℕ → ShortBelow = λ km. short_below_of persons km (p ∷ r.trace) in
+      let at : ℕ → Option Witness = λ km. short_below_of persons km (p ∷ r.trace) in
       record {
         ledger = refl;
         short =

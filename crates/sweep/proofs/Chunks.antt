@@ -1,4 +1,5 @@
 -- A level on its way through its chunks, over plain values: the definition's outcome so far, its children written, and room for the next.
+use Rattle.std.proofs.Common.{Option}
 use Prim.Native.Nat.{ℕ, zero, suc, ◌+◌, ◌-◌, ◌≤◌, ◌<◌, ◌^◌, min}
 use mathlib.Core.Path.{◌≡◌, refl, sym, ap, subst, ◌∙◌}
 use mathlib.Core.List.{List, [], ◌∷◌, ◌++◌, append-nil, append_assoc}
@@ -18,7 +19,6 @@ use Rattle.blocks.specs.declared.Block.{Block}
 use Rattle.blocks.specs.Block.{area, split, Rectangle}
 use Rattle.blocks.specs.State.{word_of, blocks_of, Written}
 use Rattle.blocks.proofs.Tiles.{length_area}
-use Rattle.candidates.specs.declared.Held.{Held}
 use Rattle.levels.specs.declared.ChunkResult.{ChunkResult}
 use Rattle.levels.specs.Level.{chunk, chunks, joined, level_in_order}
 use Rattle.chunk_work.specs.Work.{Outcome}
@@ -30,6 +30,7 @@ use Rattle.levels.proofs.Rule.{begun, chunks_rule, chunks_enough, chunks_whole, 
 use Rattle.levels.proofs.Counts.{ended, Counts, counts_kept, next_fits}
 use Rattle.sweep.proofs.Spans.{span_none, span_cut, span_length, span_first}
 use Rattle.sweep.proofs.Sweeps.{sofar_room, sofar_light, written_then, written_size, written_nothing}
+use Rattle.candidates.specs.declared.Candidate.{Candidate}
 
 -- ---- a list cut into pieces
 
@@ -49,7 +50,7 @@ pieces_out n xs = refl
 
 -- ---- the chunks that are done
 
-module _ (m : Map) (km : Float) (best : Held) where
+module _ (m : Map) (km : Float) (best : Option Candidate) where
   abbrev g : Grid
   g = m.globe.grid
 
@@ -88,7 +89,7 @@ blocks_count current n words = ap (length {A = Block}) (sym (span_first current 
 pub blocks_few : (g : Grid) (current : List ℕ) (n : ℕ) (following : List ℕ) → n ≤ length current → CanSweep g (blocks_of n current) following 0 → n ≤ most_cells
 blocks_few g current n following words can = omega (arith, blocks_count current n words, length_area g can.rectangles, can.narrow)
 
-module _ (gr : Grid) (angles cosines : List Float) (sums : List ℕ) (current : List ℕ) (n : ℕ) (km : Float) (best : Held) (following₀ : List ℕ) (size : ℕ) where
+module _ (gr : Grid) (angles cosines : List Float) (sums : List ℕ) (current : List ℕ) (n : ℕ) (km : Float) (best : Option Candidate) (following₀ : List ℕ) (size : ℕ) where
   abbrev the_map : Map
   the_map = summed_map gr angles cosines sums
 

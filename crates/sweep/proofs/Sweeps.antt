@@ -1,4 +1,5 @@
 -- A chunk on its way through its words, over plain values: the definition's work so far, its children written, and room for the next.
+use Rattle.std.proofs.Common.{Option}
 use Prim.Native.Nat.{ℕ, ◌+◌, ◌/◌, ◌≤◌, ◌<◌}
 use mathlib.Core.Path.{◌≡◌, refl, sym, ap, subst, ◌∙◌}
 use mathlib.Core.Bool.{Bool, true, false, cond}
@@ -20,7 +21,6 @@ use Rattle.blocks.specs.Block.{area, split, Rectangle}
 use Rattle.blocks.specs.State.{word_of, block_of, Written}
 use Rattle.pieces.specs.Requires.{CanSplit}
 use Rattle.blocks.proofs.Tiles.{length_area, split_rectangle, split_settled}
-use Rattle.candidates.specs.declared.Held.{Held}
 use Rattle.levels.specs.Level.{examine, started, chunk}
 use Rattle.chunk_work.specs.Work.{Work}
 use Rattle.levels.specs.State.{summed_map, started_work, blocks_from, children, Swept}
@@ -33,10 +33,11 @@ use Rattle.levels.proofs.Rule.{fold_rule}
 use Rattle.levels.proofs.Counts.{ended, Counts, counts_kept, next_fits}
 use Rattle.levels.proofs.OneBlock.{block_small, can_count}
 use Rattle.sweep.proofs.Spans.{span_none, span_cut, span_more}
+use Rattle.candidates.specs.declared.Candidate.{Candidate}
 
 -- ---- what a chunk has come to
 
-module _ (m : Map) (km : Float) (best : Held) where
+module _ (m : Map) (km : Float) (best : Option Candidate) where
   abbrev pub sofar : List Block → Work
   sofar bs = fold (examine m km) (started m km best) bs
 
@@ -86,20 +87,20 @@ children_more false bs b = sym (append-nil (concat_each split bs))
 pub middle_on : (g : Grid) (angles : List Float) → Sheet g angles → OnSheet g angles (record { 0 = g.height / 2 })
 middle_on g angles t = record { sheet = t; on = omega (arith, (grid_sizes g t.sizes).some_rows) }
 
-pub start_held : (g : Grid) (km : Float) (best : Held) (w : ChunkWork) → w ≡ started_work g km best → w.held ≡ best
+pub start_held : (g : Grid) (km : Float) (best : Option Candidate) (w : ChunkWork) → w ≡ started_work g km best → w.held ≡ best
 unfolding started_work
 start_held g km best w e = ap (λ (x : ChunkWork). x.held) e
 
-pub start_own : (g : Grid) (km : Float) (best : Held) (w : ChunkWork) → w ≡ started_work g km best → w ≡ started_work g km w.held
+pub start_own : (g : Grid) (km : Float) (best : Option Candidate) (w : ChunkWork) → w ≡ started_work g km best → w ≡ started_work g km w.held
 start_own g km best w e = e ∙ ap (started_work g km) (sym (start_held g km best w e))
 
-start_same : (m : Map) (km : Float) (best : Held) (w : ChunkWork) → w ≡ started_work m.globe.grid km best → work_of w [] ≡ started m km best
+start_same : (m : Map) (km : Float) (best : Option Candidate) (w : ChunkWork) → w ≡ started_work m.globe.grid km best → work_of w [] ≡ started m km best
 unfolding started_work started
 start_same m km best w e = ap (λ (x : ChunkWork). work_of x []) e
 
 -- ---- the loop
 
-module _ (g : Grid) (angles cosines : List Float) (sums : List ℕ) (current : List ℕ) (start end : ℕ) (km : Float) (best : Held) (following₀ : List ℕ) (live : ℕ) where
+module _ (g : Grid) (angles cosines : List Float) (sums : List ℕ) (current : List ℕ) (start end : ℕ) (km : Float) (best : Option Candidate) (following₀ : List ℕ) (live : ℕ) where
   abbrev m : Map
   m = summed_map g angles cosines sums
 

@@ -8,13 +8,13 @@ ghost use Rattle.tally.specs.State.{weight};
 ghost use Rattle.levels.specs.Requires.{Ready, CanSweep};
 
 use crate::sweep;
-use candidates::Held;
+use candidates::Candidate;
 use grid::Grid;
 use levels::ChunkResult;
 use tally::{SearchStats, Tally};
 
 // A level before its first chunk.
-fn begun(best: Held) -> ChunkResult
+fn begun(best: Option<Candidate>) -> ChunkResult
     ensures { result ≡ record { held = best; tally = tally (stats 1 0 0 0 0) 0 0; live = 0 } }
 {
     let stats = SearchStats::of(1, 0, 0, 0, 0);
@@ -55,7 +55,7 @@ pub fn level(
     current: &[u64],
     n: usize,
     km: f64,
-    best: Held,
+    best: Option<Candidate>,
     following: &mut [u64],
 ) -> ChunkResult
     requires ready { Ready grid angles.now cosines.now sums.now }

@@ -9,7 +9,7 @@ ghost use Rattle.levels.specs.State.{summed_map, started_work, blocks_from, Swep
 ghost use Rattle.levels.specs.Requires.{Ready, CanSweep, ChunkWords};
 
 use blocks::Block;
-use candidates::Held;
+use candidates::Candidate;
 use chunk_work::ChunkWork;
 use grid::{Grid, Row};
 use kernel_sums::circle_population;
@@ -17,7 +17,7 @@ use levels::ChunkResult;
 use tally::{SearchStats, Tally};
 
 // A chunk begins with what was held when its level began, and with two kernels that count as built: of the middle row and the plain radius.
-fn started(grid: Grid, km: f64, best: Held) -> ChunkWork
+fn started(grid: Grid, km: f64, best: Option<Candidate>) -> ChunkWork
     ensures { result ≡ started_work grid km best }
 {
     let middle = Row(grid.height / 2);
@@ -64,7 +64,7 @@ pub(crate) fn chunk(
     start: usize,
     end: usize,
     km: f64,
-    best: Held,
+    best: Option<Candidate>,
     following: &mut [u64],
     live: usize,
 ) -> ChunkResult

@@ -1,4 +1,5 @@
 -- `sweep::sweep::chunk`: a turn seen from its block, the wide kernels, the exact one, and what the turn's end needs of them.
+use Rattle.std.proofs.Common.{Option}
 use mathlib.Core.Path.{◌≡◌, sym, ap, subst, ◌∙◌}
 use mathlib.Core.Bool.{true, cond}
 use mathlib.Core.List.{List, [], ◌∷◌, ◌++◌}
@@ -21,7 +22,6 @@ use Rattle.blocks.specs.Block.{probe, Rectangle, same_shape}
 use Rattle.bounds.specs.Bound.{wide_km}
 use Rattle.bounds.specs.State.{wide_kernel}
 use Rattle.bounds.specs.Requires.{CanWiden}
-use Rattle.candidates.specs.declared.Held.{Held}
 use Rattle.levels.specs.Level.{examine, chunk}
 use Rattle.levels.specs.State.{blocks_from, Swept, summed_map, Serves}
 use Rattle.chunk_work.specs.State.{work_of}
@@ -34,6 +34,7 @@ use Rattle.sweep.proofs.Sweeps.{middle_on, start_held, start_own, sweep_start, n
 use borrow.Author.Tests.{eqb-true}
 use Rattle.sweep.proofs.sweep.chunk.Goals as goal
 use Rattle.sweep.proofs.sweep.chunk.Goals.{After-odd_columns, then-odd_columns, else-odd_columns, then-not-same_shape, else-not-same_shape, then-not-same_shape-2, else-not-same_shape-2, then-asks, else-asks, then-not-same_row, else-not-same_row}
+use Rattle.candidates.specs.declared.Candidate.{Candidate}
 
 -- ---- a turn, seen from its block
 
@@ -227,7 +228,7 @@ returns c =
     let q = c.requires in
     let a = c.args in
     let done =
-    subst (λ (x : Held). Swept (chunk (summed_map a.grid a.angles.now a.cosines.now a.sums.now) a.km x (blocks_from a.start a.end a.current.now)) a.following.now a.live l.following
+    subst (λ (x : Option Candidate). Swept (chunk (summed_map a.grid a.angles.now a.cosines.now a.sums.now) a.km x (blocks_from a.start a.end a.current.now)) a.following.now a.live l.following
     (record { held = l.work.held; tally = l.work.tally; live = l.at }))
     (start_held _ _ _ c.started-work.result c.started-work.ensures)
     (sweep_done _ _ _ _ _ _ _ _ _ _ _ q.ready q.chunk_words q.can_sweep l.following l.work l.at l.i l.invariant.0 c.loop-i-test.false) in
