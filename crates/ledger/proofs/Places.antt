@@ -1,7 +1,7 @@
 -- Laws of the places read one at a time, as the loops of get, of the judge and of a put's place do: d is any entry.
 use Prim.Native.Nat.{ℕ, suc, ◌+◌, ◌-◌, ◌≤◌, ◌<◌, ◌^◌, min}
 use mathlib.Core.Path.{◌≡◌, refl, ap, ◌∙◌}
-use mathlib.Core.Bool.{Bool, true, false, ◌&&◌}
+use mathlib.Core.Bool.{Bool, true, false, ◌&&◌, cond}
 use mathlib.Core.List.{List, [], ◌∷◌}
 use native.Mathlib.Nat.{min-eq_left}
 use native.Mathlib.Numerals.{add-one}
@@ -9,14 +9,17 @@ use native.Mathlib.Omega.{arith}
 use lib.Dec.{leb, ltb, eqb}
 use lib.ListN.{length, take, drop, get_or, length-take, drop_of_length-le}
 use lib.Seq.{drop-cons, get_or-take}
-use borrow.Author.Tests.{le-leb, lt-leb, leb-true, leb-false, ltb-true}
+use borrow.Author.Tests.{le-leb, lt-leb, leb-true, leb-false, ltb-true, ltb-false}
+use Rattle.std.specs.Option.{unwrap_or}
+use Rattle.std.specs.List.{position, position_or_len}
+use Rattle.std.proofs.lemmas.List.Recursion.{is_position_or_len}
+use Rattle.std.proofs.Common.{Some, None}
 use Rattle.lists.proofs.Bools.{and_left, and_right, and_no, cases}
 use Rattle.grid.specs.declared.Grid.{Grid}
 use Rattle.grid.specs.Grid.{ceiling, on_grid}
 use Rattle.candidates.specs.Candidate.{centre_of}
 use Rattle.ledger.specs.declared.Entry.{Entry}
 use Rattle.ledger.specs.declared.Ledger.{Ledger}
-use Rattle.ledger.specs.declared.Got.TheVariants.{Circle, Nothing}
 use Rattle.ledger.specs.Ledger.{capacity, entries, find, entry_in_bounds, rising_from, all_in_bounds, ledger_in_order}
 use Rattle.ledger.specs.State.{place_of}
 
@@ -26,6 +29,27 @@ length_entries l e = length-take l.len l.places ∙ ap (min l.len) e
 
 pub length_counted : (l : Ledger) → length l.places ≡ capacity → l.len ≤ capacity → length (entries l) ≡ l.len
 length_counted l e h = length_entries l e ∙ min-eq_left h
+
+pub place_le : (es : List Entry) (km : ℕ) → place_of es km ≤ length es
+unfolding place_of
+place_le [] km = omega arith
+place_le (e ∷ es) km = cases (leb km e.km.0) (λ t. rw t (omega arith)) (λ f. rw f (omega (arith, place_le es km)))
+
+place_first : (km : ℕ) (es : List Entry) → place_of es km ≡ position_or_len (λ (e : Entry). leb km e.km.0) es
+unfolding place_of
+place_first km es =
+    is_position_or_len (λ (xs : List Entry). place_of xs km) (λ (e : Entry). leb km e.km.0) refl
+    (λ x xs. cases (leb km x.km.0) (λ t. rw t) (λ f. rw f (omega arith))) es
+
+or_len : (n k len : ℕ) → n ≤ k → k ≡ len → n ≡ unwrap_or (cond (ltb n k) (Some n) None) len
+or_len n k len h e = cases (ltb n k) (λ t. rw t) (λ f. rw f (omega (arith, ltb-false n k f)))
+
+pub place_found : (l : Ledger) (km : ℕ) → length l.places ≡ capacity → l.len ≤ capacity
+    → place_of (entries l) km ≡ unwrap_or (position (λ (e : Entry). leb km e.km.0) (entries l)) l.len
+place_found l km whole counted =
+    let within = place_le (entries l) km in
+    let long = length_counted l whole counted in
+    rw place_first (or_len _ _ _ (rw place_first at within) long)
 
 -- no entry is left
 pub from_end : (l : Ledger) (i : ℕ) → length l.places ≡ capacity → min l.len capacity ≤ i → drop i (entries l) ≡ []
@@ -43,7 +67,7 @@ pub order_beyond : (g : Grid) (l : Ledger) → leb l.len capacity ≡ false → 
 unfolding ledger_in_order
 order_beyond g l h = rw h
 
-pub get_end : (es : List Entry) (km : ℕ) → es ≡ [] → find es km ≡ Nothing
+pub get_end : (es : List Entry) (km : ℕ) → es ≡ [] → find es km ≡ None
 unfolding find
 get_end es km e = rw e
 
@@ -74,7 +98,7 @@ module _ (l : Ledger) (i : ℕ) (d : Entry) (here : i < min l.len capacity) (who
       let inside : i < length (take l.len l.places) = rw (length-take, whole) here in
       rw (add-one, drop-cons (take l.len l.places) i d inside, get_or-take l.len l.places i d (omega arith))
 
-  pub get_here : (km : ℕ) → eqb (get_or l.places i d).km.0 km ≡ true → find (drop i (entries l)) km ≡ Circle (get_or l.places i d).centre
+  pub get_here : (km : ℕ) → eqb (get_or l.places i d).km.0 km ≡ true → find (drop i (entries l)) km ≡ Some (get_or l.places i d).centre
   unfolding find
   get_here km e = rw (from_here, e)
 
