@@ -17,6 +17,7 @@ use Rattle.spacing.specs.declared.Spacing.{Spacing}
 use Rattle.tally.specs.declared.SearchStats.{SearchStats}
 use Rattle.tally.specs.Counts.{no_stats, plus_stats}
 use Rattle.search_rules.specs.Search.{search}
+use Rattle.candidates.specs.declared.Candidate.{Candidate}
 use Rattle.ledger.specs.declared.Ledger.{Ledger}
 use Rattle.ledger.specs.Ledger.{entry, get, put}
 use Rattle.share.specs.Target.{reaches}
