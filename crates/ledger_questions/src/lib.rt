@@ -2,7 +2,7 @@
 #![tactic(auto)]
 
 ghost use Rattle.std.specs.Prelude.{◌≡◌, ◌&&◌, leb};
-ghost use Rattle.ledger.specs.Ledger.{entry_in_bounds, ledger_in_order, places_free, place_for, get};
+ghost use Rattle.ledger.specs.Ledger.{entry_in_bounds, rising_from, all_in_bounds, ledger_in_order, places_free, place_for, get};
 
 use candidates::Candidate;
 use grid::{Cell, Grid, RadiusKm};
@@ -33,21 +33,26 @@ fn follows(grid: Grid, least: u32, entry: Entry) -> bool
     least <= entry.km.0 && entry_in_bounds(grid, entry)
 }
 
-// Question 11: no more entries than places, kilometres strictly rising, each entry in bounds.
-pub fn ledger_in_order(grid: Grid, ledger: Ledger) -> bool
-    ensures { result ≡ ledger_in_order grid ledger }
+// Whether kilometres rise strictly and each entry is in bounds.
+fn entries_in_order(grid: Grid, entries: &[Entry]) -> bool
+    ensures { result ≡ (rising_from 0 entries.now && all_in_bounds grid entries.now) }
 {
-    if ledger.len > Ledger::CAPACITY {
-        return false;
-    }
     let mut least: u32 = 0;
-    for entry in &ledger.places[..ledger.len] {
+    for entry in entries {
         if !follows(grid, least, *entry) {
             return false;
         }
         least = entry.km.0 + 1;
     }
     true
+}
+
+// Question 11: no more entries than places, kilometres strictly rising, each entry in bounds.
+#[tactic(auto, using(ledger::proofs::Places::order_counted, ledger::proofs::Places::order_beyond), unfolding(ledger::specs::Ledger::entries))]
+pub fn ledger_in_order(grid: Grid, ledger: Ledger) -> bool
+    ensures { result ≡ ledger_in_order grid ledger }
+{
+    ledger.len <= Ledger::CAPACITY && entries_in_order(grid, &ledger.places[..ledger.len])
 }
 
 // Question 12: n places are free. The sum of len and n may need more than 64 bits, so it is not formed.
