@@ -20,7 +20,6 @@ use Rattle.spacing.specs.Spacing.{spacing_given}
 use Rattle.most_populous.specs.Call.{Buffers, buffers_fit, search_call}
 use Rattle.ledger.specs.declared.Entry.{Entry}
 use Rattle.ledger.specs.declared.Ledger.{Ledger}
-use Rattle.ledger.specs.declared.Got.TheVariants.{Circle}
 use Rattle.ledger.specs.Ledger.{entries, no_entries, get, rising_from, places_free}
 use Rattle.climb.specs.Climb.{most_radii, Ended, all_short, reached_at}
 use Rattle.share.specs.Target.{share_in_range}
@@ -163,9 +162,9 @@ radii_evaluated_of m l (c ∷ cs) = evaluated_of (called m l c).answer + radii_e
 pub record LedgerRight (m : Map) (l : Ledger) (cs : List Call) : Type 0 where
   pub rising : T (rising_from 0 (entries (ledger_after m l cs)))
   pub number : length (entries (ledger_after m l cs)) ≡ radii_evaluated_of m l cs
-  pub held : (km : ℕ) → T (evaluated_by m l cs km) → (c : Candidate) × (get (ledger_after m l cs) km ≡ Circle c)
-  pub only : (km : ℕ) (c : Candidate) → get (ledger_after m l cs) km ≡ Circle c → T (evaluated_by m l cs km)
-  pub best : (km : ℕ) (c : Candidate) → get (ledger_after m l cs) km ≡ Circle c → BestCandidate m km c
+  pub held : (km : ℕ) → T (evaluated_by m l cs km) → (c : Candidate) × (get (ledger_after m l cs) km ≡ Some c)
+  pub only : (km : ℕ) (c : Candidate) → get (ledger_after m l cs) km ≡ Some c → T (evaluated_by m l cs km)
+  pub best : (km : ℕ) (c : Candidate) → get (ledger_after m l cs) km ≡ Some c → BestCandidate m km c
 
 -- a single claim about the list
 pub record ListRight (m : Map) (l : Ledger) (cs : List Call) : Type 0 where

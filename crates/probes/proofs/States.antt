@@ -10,6 +10,7 @@ use lib.Dec.{eqb}
 use lib.ListN.{length}
 use lib.Ieee.{Float}
 use borrow.Author.Tests.{eq-eqb}
+use Rattle.std.proofs.Common.{Option, Some, None}
 use Rattle.lists.specs.Counted.{one}
 use Rattle.lists.proofs.Bools.{cases, and_both, and_no, cond_true, cond_false}
 use Rattle.grid.specs.Map.{Map}
@@ -17,8 +18,7 @@ use Rattle.spacing.specs.declared.Spacing.{Spacing}
 use Rattle.tally.specs.declared.SearchStats.{SearchStats}
 use Rattle.tally.specs.Counts.{no_stats, plus_stats}
 use Rattle.search_rules.specs.Search.{search}
-use Rattle.ledger.specs.declared.Got.{Got}
-use Rattle.ledger.specs.declared.Got.TheVariants.{Circle, Nothing}
+use Rattle.candidates.specs.declared.Candidate.{Candidate}
 use Rattle.ledger.specs.declared.Ledger.{Ledger}
 use Rattle.ledger.specs.Ledger.{entry, get, put}
 use Rattle.share.specs.Target.{reaches}
@@ -114,8 +114,8 @@ module _ (persons slack : Float) (low : ℕ) (r : Run) (l : Ledger) (s : RunStat
       let same : get l km ≡ get r.ledger km = ap (λ (h : Ledger). get h km) k.ledger in
       rw same (by (get r.ledger km))
     where
-      by : (f : Got) → Tracked persons slack low s km (probed_with m spacing r km f) (ledger_with m spacing l km f) (state_with m spacing persons slack s km f)
-      by (Circle c) =
+      by : (f : Option Candidate) → Tracked persons slack low s km (probed_with m spacing r km f) (ledger_with m spacing l km f) (state_with m spacing persons slack s km f)
+      by (Some c) =
           record {
             reached = refl;
             found = refl;
@@ -123,7 +123,7 @@ module _ (persons slack : Float) (low : ℕ) (r : Run) (l : Ledger) (s : RunStat
                 rw k.ledger
                 (noted_tracks (record { km = km; centre = c; reused = true; stats = no_stats }) r.ledger (reused_more s.stats) (rw (k.stats, add-zero, ← plus_none)));
           }
-      by Nothing =
+      by None =
           let f = search m spacing km in
           record {
             reached = refl;

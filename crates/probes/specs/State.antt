@@ -13,8 +13,6 @@ use Rattle.tally.specs.declared.SearchStats.{SearchStats}
 use Rattle.tally.specs.Counts.{no_stats, plus_stats}
 use Rattle.tally.specs.State.{stats_weight}
 use Rattle.search_rules.specs.Search.{search}
-use Rattle.ledger.specs.declared.Got.{Got}
-use Rattle.ledger.specs.declared.Got.TheVariants.{Circle, Nothing}
 use Rattle.ledger.specs.declared.Ledger.{Ledger}
 use Rattle.ledger.specs.Ledger.{entry, get, put, capacity, ledger_in_order}
 use Rattle.climb.specs.Climb.{most_radii, Ended, all_short, reached_at}
@@ -75,9 +73,9 @@ noted persons slack s km c t =
     }
 
 -- after a probe, by the ledger's entry or else by a search
-unfoldable pub state_with : Map → Spacing → Float → Float → RunState → ℕ → Got → RunState
-state_with m spacing persons slack s km (Circle c) = noted persons slack s km c (reused_more s.stats)
-state_with m spacing persons slack s km Nothing =
+unfoldable pub state_with : Map → Spacing → Float → Float → RunState → ℕ → Option Candidate → RunState
+state_with m spacing persons slack s km (Some c) = noted persons slack s km c (reused_more s.stats)
+state_with m spacing persons slack s km None =
     let f = search m spacing km in
     noted persons slack s km f.centre (evaluated_more s.stats f.tally.stats)
 
@@ -86,9 +84,9 @@ unfoldable pub state_after : Map → Spacing → Float → Float → RunState �
 state_after m spacing persons slack s l km = state_with m spacing persons slack s km (get l km)
 
 -- the ledger beside it: an entry leaves it, a search is put
-unfoldable pub ledger_with : Map → Spacing → Ledger → ℕ → Got → Ledger
-ledger_with m spacing l km (Circle c) = l
-ledger_with m spacing l km Nothing = put l (entry km (search m spacing km).centre)
+unfoldable pub ledger_with : Map → Spacing → Ledger → ℕ → Option Candidate → Ledger
+ledger_with m spacing l km (Some c) = l
+ledger_with m spacing l km None = put l (entry km (search m spacing km).centre)
 
 -- the ledger after a probe at a kilometre
 unfoldable pub ledger_probed : Map → Spacing → Ledger → ℕ → Ledger
