@@ -9,36 +9,36 @@ use Rattle.circle_rules.proofs.Calls.{circle_passed, circle_refused, circle_answ
 use Rattle.kernel.proofs.Placing.{rows_placed, rows_people}
 use Rattle.circle.proofs.Accepted.{to_fill, to_build, to_sum, summed_up}
 use Rattle.circle.proofs.call.circle.Goals as goal
-use Rattle.circle.proofs.call.circle.Goals.{In_ok-circle_asked}
+use Rattle.circle.proofs.call.circle.Goals.{In_ok-radius}
 
-pub returns-in_err-circle_asked : goal.returns-in_err-circle_asked
-returns-in_err-circle_asked c = search (rules, circle_refused)
+pub returns-in_err-radius : goal.returns-in_err-radius
+returns-in_err-radius c = search (rules, circle_refused)
 
 -- past the questions
-module _ (r : In_ok-circle_asked) where
+module _ (r : In_ok-radius) where
   abbrev given : Map
   given = let a = r.args in lent_map a.grid a.counts.now a.angles.now a.cosines.now
 
-  left : (first_no (circle_questions given r.args.sums.now r.args.km r.args.centre) ≡ 0) × (r.args.km ≡ r.in_ok-circle_asked.field-0.0)
-  left = radius_left _ _ _ r.in_ok-circle_asked.ensures
+  left : (first_no (circle_questions given r.args.sums.now r.args.km r.args.centre) ≡ 0) × (r.args.km ≡ r.in_ok-radius.field-0.0)
+  left = radius_left _ _ _ r.in_ok-radius.ensures
 
   passed : PassedCall given (circle_own r.args.grid r.args.sums.now r.args.km r.args.centre)
   passed = circle_passed _ _ _ _ left.0
 
 pub fill_sums-requires : goal.fill_sums-requires
-fill_sums-requires c = to_fill _ _ _ _ (passed (goal.at.fill_sums-requires c).In_ok-circle_asked)
+fill_sums-requires c = to_fill _ _ _ _ (passed (goal.at.fill_sums-requires c).In_ok-radius)
 
 pub build-kernel-requires : goal.build-kernel-requires
-build-kernel-requires c = to_build _ _ _ _ (passed (goal.at.build-kernel-requires c).In_ok-circle_asked)
+build-kernel-requires c = to_build _ _ _ _ (passed (goal.at.build-kernel-requires c).In_ok-radius)
 
 pub circle_population-requires : goal.circle_population-requires
 circle_population-requires c =
-    let r = (goal.at.circle_population-requires c).In_ok-circle_asked in
+    let r = (goal.at.circle_population-requires c).In_ok-radius in
     rows_placed (to_sum _ _ _ _ (passed r) _ c.fill_sums.ensures _ (left r).1 _ c.build-kernel.ensures (λ i. (c.type_inv.counts i).fits))
 
 pub returns : goal.returns
 returns c =
-    let r = (goal.at.returns c).In_ok-circle_asked in
+    let r = (goal.at.returns c).In_ok-radius in
     circle_answered _ _ _ _ _ _ (left r).0
     (c.circle_population.ensures ∙ rows_people _ c.build-kernel.result _ ∙ summed_up _ _ _ _ (passed r) _ c.fill_sums.ensures _ (left r).1 _ c.build-kernel.ensures)
     (c.fill_sums.ensures ∙ bare_filled (given r) _)
