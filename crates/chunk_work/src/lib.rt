@@ -8,7 +8,7 @@ mod work;
 use candidates::Candidate;
 pub use cut::{chunk_end, chunk_size};
 use grid::Row;
-pub use kept::{no_shape, odd_columns, same_row};
+pub use kept::{no_shape, odd_columns};
 use tally::Tally;
 pub use work::{asks, examined, survives};
 

@@ -5,6 +5,7 @@ use mathlib.Core.Path.{◌≡◌, refl, sym, ap, subst, ◌∙◌}
 use mathlib.Core.Bool.{Bool, true, false, cond}
 use mathlib.Core.List.{List, [], ◌∷◌, ◌++◌, append-nil}
 use native.Mathlib.Omega.{arith}
+use native.Mathlib.Nat.{add-zero}
 use lib.Ieee.{Float}
 use lib.ListN.{length, get_or, length-append}
 use Rattle.lists.specs.Lists.{fold, each, concat_each}
@@ -115,17 +116,18 @@ module _ (g : Grid) (angles cosines : List Float) (sums : List ℕ) (current : L
     pub written : Written following₀ live (each word_of (children (up_to i).outcome)) following at
 
   module _ (t : Ready g angles cosines sums) (words : ChunkWords current start end) (can : CanSweep g (blocks_from start end current) following₀ live) where
-    pub sweep_start : (w : ChunkWork) → w ≡ started_work g km best → Sweeping following₀ w live start
+    pub sweep_start : (w : ChunkWork) → w ≡ started_work g km best → Sweeping following₀ w live (start + 0)
     unfolding fold each concat_each started
     sweep_start w e =
         let none_yet = sym (span_none current start) in
-        record {
+        rw (add-zero start)
+        (record {
           from = omega arith;
           to = words.order;
           size = refl;
           same = subst (λ (bs : List Block). work_of w (sofar m km best bs).outcome.survivors ≡ sofar m km best bs) none_yet (start_same m km best w e);
           written = subst (λ (bs : List Block). Written following₀ live (each word_of (children (sofar m km best bs).outcome)) following₀ live) none_yet (written_nothing following₀ live);
-        }
+        })
 
     module _ (following : List ℕ) (w : ChunkWork) (at i : ℕ) (s : Sweeping following w at i) where
       module _ (h : i < end) where
@@ -209,14 +211,15 @@ module _ (g : Grid) (angles cosines : List Float) (sums : List ℕ) (current : L
           few true = omega (arith, length_each word_of (split next))
           few false = omega arith
 
-          pub sweep_next : Sweeping following' w' at' (i + 1)
-          sweep_next =
+          pub sweep_next : (on : ℕ) → on ≡ i + 1 → Sweeping following' w' at' on
+          sweep_next on is =
               let old = each word_of (children (up_to i).outcome) in
               let new = each word_of (cond survives (split next) []) in
               let all_words : old ++ new ≡ each word_of (children (up_to (i + 1)).outcome) =
               sym (each_append word_of (children (up_to i).outcome) (cond survives (split next) []))
               ∙ ap (each word_of) (sym (children_more survives (up_to i).outcome.survivors next) ∙ ap (concat_each split) next_survivors) in
-              record {
+              rw is
+              (record {
                 from = omega (arith, s.from);
                 to = omega arith;
                 size = written_size following following' at at' new (omega (arith, sweep_room.room, few survives)) wrote ∙ s.size;
@@ -224,7 +227,7 @@ module _ (g : Grid) (angles cosines : List Float) (sums : List ℕ) (current : L
                 written =
                     subst (λ (x : List ℕ). Written following₀ live x following' at') all_words
                     (written_then following₀ following following' live at at' old new (omega (arith, children_fit, few survives)) s.written wrote);
-              }
+              })
 
       pub sweep_done : end ≤ i → Swept (chunk m km best (blocks_from start end current)) following₀ live following (record { held = w.held; tally = w.tally; live = at })
       unfolding chunk

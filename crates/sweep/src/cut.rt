@@ -27,6 +27,7 @@ fn begun(best: Option<Candidate>) -> ChunkResult
 }
 
 // The better of what two hold, their counts added, and the place after the second's children.
+#[tactic(auto, unfolding(levels::specs::State::joined_results))]
 fn joined(a: ChunkResult, b: ChunkResult) -> ChunkResult
     requires { weight a.tally + weight b.tally ≤ 2 ^ 31 }
     ensures { result ≡ joined_results a b }
@@ -67,15 +68,14 @@ pub fn level(
 {
     let size = chunk_work::chunk_size(n);
     let mut done = begun(best);
-    let mut start: usize = 0;
-    while start < n {
+    // No blocks have chunks of no size, which nothing can step by.
+    for start in (0..n).step_by(size.max(1)) {
         let end = chunk_work::chunk_end(start, size, n);
         let live = done.live;
         let part = sweep::chunk(
             grid, angles, cosines, sums, current, start, end, km, best, following, live,
         );
         done = joined(done, part);
-        start = end;
     }
     done
 }
