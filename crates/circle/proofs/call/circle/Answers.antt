@@ -19,7 +19,7 @@ module _ (r : In_ok-radius) where
   abbrev given : Map
   given = let a = r.args in lent_map a.grid a.counts.now a.angles.now a.cosines.now
 
-  left : (first_no (circle_questions given r.args.sums.now r.args.km r.args.centre) ≡ 0) × (r.args.km ≡ r.in_ok-radius.field-0.0)
+  left : (first_no (circle_questions given r.args.sums.now r.args.km r.args.centre) ≡ 0) × (r.args.km ≡ r.in_ok-radius.radius.0)
   left = radius_left _ _ _ r.in_ok-radius.ensures
 
   passed : PassedCall given (circle_own r.args.grid r.args.sums.now r.args.km r.args.centre)

@@ -21,7 +21,7 @@ module _ (r : In_ok-radius) where
   abbrev lent : Buffers
   lent = let a = r.args in buffers a.sums.now a.current.now a.following.now
 
-  left : (first_no (search_questions given r.args.spacing r.args.km lent) ≡ 0) × (r.args.km ≡ r.in_ok-radius.field-0.0)
+  left : (first_no (search_questions given r.args.spacing r.args.km lent) ≡ 0) × (r.args.km ≡ r.in_ok-radius.radius.0)
   left = radius_left _ _ _ r.in_ok-radius.ensures
 
   passed : PassedCall given (search_own r.args.grid r.args.spacing r.args.km lent)
