@@ -73,7 +73,7 @@ pub fn search(
     )
 }
 
-// A smallest radius.
+// A smallest radius. It lends as a search does; each passes its own call's arguments, and a common form would hand on as many.
 pub fn smallest(
     board: &Board,
     share: f64,

@@ -68,7 +68,8 @@ pub fn none(sums: usize, current: usize, following: usize) -> Map
 // Every place overwritten, by the line's last number where the line has none.
 fn put<T: Drop, F: Fn(u64) -> T + Drop>(places: &mut [T], line: &[u64], of: F)
     requires { F.IsAlwaysCallable of }
-    ensures { (f : ℕ → T) → ((word : _) (x : T) → F.post of word x → x ≡ f word) → places.new ≡ over (λ i. f (or_last line.now i)) (length places.old) places.old }
+    ensures { (f : ℕ → T) → ((word : _) (x : T) → F.post of word x → x ≡ f word)
+        → places.new ≡ over (λ i. f (or_last line.now i)) (length places.old) places.old }
 {
     for (i, place) in places.iter_mut().enumerate() {
         *place = of(test_lines::or_last(line, i));

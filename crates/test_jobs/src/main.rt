@@ -52,6 +52,7 @@ fn played(alloc: Global, list: &[u8], damages: bool) -> Result<Score, AllocError
         tally: Tally::none(),
     };
     let mut room = vec![in alloc; 0u8; PRINTED]?;
+    // No iterator over lines gives what stands behind one, which a job's output is compared with.
     let mut rest = list;
     while let Some(end) = rest.iter().position(|b| *b == b'\n') {
         let (line, behind) = rest.split_at(end + 1);

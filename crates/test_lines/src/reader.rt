@@ -62,7 +62,7 @@ fn put_last(r: Line, words: &mut [u64])
     }
 }
 
-// The numbers behind the letter, put into the words lent as far as there is room.
+// The numbers behind the letter, put into the words lent as far as there is room: who calls says how many a line may have.
 pub fn numbers_of(line: &[u8], words: &mut [u64]) -> Line
     ensures { record { line = result; words = words.new } ≡ line_read line.entry.now words.old }
 {
