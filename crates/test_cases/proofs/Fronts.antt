@@ -14,13 +14,8 @@ use Rattle.crossings.specs.Smallest.{SmallestCrossing, smallest_crossing}
 use Rattle.most_populous.specs.Call.{Buffers}
 use Rattle.test_cases.specs.declared.map.Map.{Map}
 use Rattle.test_lines.specs.Numbers.{short_number_at}
-use Rattle.test_cases.specs.Calls.{lent_of, lent_fronts, with_fronts, shown_by, shown_front, board_left, circle_played, search_played, smallest_played}
+use Rattle.test_cases.specs.Calls.{lent_fronts, with_fronts, shown_by, shown_front, board_left, circle_played, search_played, smallest_played}
 use Rattle.test_lines.proofs.Words.{front_count, front_taken, front_dropped}
-
--- the arrays lent
-pub lent_arrays : (m : Map) (counts c : List ℕ) (angles cosines a k : List Float) → c ≡ take m.counts counts → a ≡ take m.angles angles → k ≡ take m.cosines cosines
-    → grid-map.lent_map m.grid c a k ≡ lent_of m counts angles cosines
-lent_arrays m counts c angles cosines a k e f g = rw (e, f, g)
 
 -- a level buffer whose front was lent: what is seen of it
 pub shown_back : (k n r : ℕ) (l s : List ℕ) → k ≡ min n (length l) → length s ≡ length (take k l) → shown_front r n (s ++ drop k l) ≡ shown_by r s ++ drop n l
@@ -45,7 +40,7 @@ module _ (m : Map) (b : Buffers) (i j k : ℕ) (e : Lent m b i j k) where
   module _ (r : ℕ) (s c f : List ℕ) (same : length c ≡ length (take j b.current)) (same' : length f ≡ length (take k b.following)) where
     -- the buffers as the call leaves them
     abbrev left : Buffers
-    left = board_left m r (s ++ drop i b.sums) (c ++ drop j b.current) (f ++ drop k b.following)
+    left = board_left m r (record { sums = s ++ drop i b.sums; current = c ++ drop j b.current; following = f ++ drop k b.following })
 
     back : left ≡ with_fronts m b (record { sums = s; current = shown_by r c; following = shown_by r f })
     back = rw (front_dropped i _ b.sums e.sums, shown_back j _ r _ c e.current same, shown_back k _ r _ f e.following same')

@@ -6,6 +6,7 @@ use Rattle.lists.specs.Front.{over}
 use Rattle.grid.specs.declared.Grid.{Grid}
 use Rattle.crossings.specs.Crossing.{grid_from}
 use Rattle.test_cases.specs.declared.map.Map.{Map}
+use Rattle.test_cases.specs.declared.map.Board as held
 use Rattle.test_lines.specs.Numbers.{short_of, short_number_at, float_at, or_last}
 
 -- width, height, origin latitude, longitude step, latitude step
@@ -32,6 +33,10 @@ pub record Board : Type 0 where
 
 abbrev pub board : Map → List ℕ → List Float → List Float → Board
 board m counts angles cosines = record { map = m; counts = counts; angles = angles; cosines = cosines }
+
+-- as the program holds them
+abbrev pub board_of : held.Board → Board
+board_of b = board b.map b.counts.items b.angles.items b.cosines.items
 
 -- every place overwritten, by the line's last number where the line has none
 abbrev pub shorts_of : List ℕ → List ℕ → List ℕ

@@ -8,12 +8,12 @@ use Rattle.crossings.specs.Calls.{CircleCrossing, circle_returned, circle_crossi
 use Rattle.crossings.specs.Smallest.{SmallestCrossing, smallest_crossing}
 use Rattle.most_populous.specs.Call.{Buffers, buffers}
 use Rattle.test_cases.specs.declared.map.Map.{Map}
+use Rattle.test_cases.specs.declared.map.Board.{Board}
 use Rattle.test_lines.specs.Numbers.{short_number_at}
 
 -- the map as a call sees it
-abbrev pub lent_of : Map → List ℕ → List Float → List Float → grid-map.Map
-lent_of m counts angles cosines =
-    grid-map.lent_map m.grid (take m.counts counts) (take m.angles angles) (take m.cosines cosines)
+abbrev pub lent_by : Board → grid-map.Map
+lent_by b = grid-map.lent_map b.map.grid (take b.map.counts b.counts.items) (take b.map.angles b.angles.items) (take b.map.cosines b.cosines.items)
 
 -- the buffers as a call is lent them
 abbrev pub lent_fronts : Map → Buffers → Buffers
@@ -35,17 +35,16 @@ abbrev pub shown_front : ℕ → ℕ → List ℕ → List ℕ
 shown_front number n words = shown_by number (take n words) ++ drop n words
 
 -- the buffers as a call left them
-abbrev pub board_left : Map → ℕ → List ℕ → List ℕ → List ℕ → Buffers
-board_left m number sums current following = buffers sums (shown_front number m.current current) (shown_front number m.following following)
+abbrev pub board_left : Map → ℕ → Buffers → Buffers
+board_left m number b = buffers b.sums (shown_front number m.current b.current) (shown_front number m.following b.following)
 
 -- what a search and a smallest radius returned and left: number and values, sums and the two level buffers
-abbrev pub search_left : Map → ℕ → List ℕ → Float → List ℕ → List ℕ → List ℕ → SearchCrossing
-search_left m number words tolerance sums current following =
-    record { number = number; words = words; tolerance = tolerance; lent = board_left m number sums current following }
+abbrev pub search_left : Map → ℕ → List ℕ → Float → Buffers → SearchCrossing
+search_left m number words tolerance b = record { number = number; words = words; tolerance = tolerance; lent = board_left m number b }
 
-abbrev pub smallest_left : Map → ℕ → List ℕ → List ℕ → List Float → List ℕ → List ℕ → List ℕ → SmallestCrossing
-smallest_left m number ledger words floats sums current following =
-    record { number = number; ledger = ledger; words = words; floats = floats; lent = board_left m number sums current following }
+abbrev pub smallest_left : Map → ℕ → List ℕ → List ℕ → List Float → Buffers → SmallestCrossing
+smallest_left m number ledger words floats b =
+    record { number = number; ledger = ledger; words = words; floats = floats; lent = board_left m number b }
 
 -- a single circle of a map; asked are kilometre, row and column
 unfoldable pub circle_played : Map → grid-map.Map → List ℕ → List ℕ → ℕ → CircleCrossing

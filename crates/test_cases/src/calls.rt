@@ -3,35 +3,27 @@
 ghost use Rattle.std.specs.Prelude.{◌≡◌};
 ghost use Rattle.crossings.specs.Calls.{circle_returned};
 ghost use Rattle.most_populous.specs.Call.{buffers};
-ghost use Rattle.test_cases.specs.Calls.{lent_of, search_left, smallest_left, circle_played, search_played, smallest_played};
+ghost use Rattle.test_cases.specs.Calls.{lent_by, search_left, smallest_left, circle_played, search_played, smallest_played};
 
-use crate::map::Map;
+use crate::map::Board;
 
 // A single circle; asked are kilometre, row and column.
-pub fn circle(
-    map: Map,
-    counts: &[u32],
-    angles: &[f64],
-    cosines: &[f64],
-    asked: &[u64],
-    sums: &mut [u64],
-    population: &mut u64,
-) -> u32
+pub fn circle(board: &Board, asked: &[u64], sums: &mut [u64], population: &mut u64) -> u32
     ensures { circle_returned result population.new sums.new
-        ≡ circle_played map (lent_of map counts.now angles.now cosines.now)
-        asked.now sums.old population.old }
+        ≡ circle_played board.now.map (lent_by board.now) asked.now sums.old population.old }
 {
+    let map = board.map;
     let grid = map.grid;
-    let n = test_lines::least(map.sums, sums.len());
+    let n = map.sums.min(sums.len());
     jadurphen::jadurphen_circle(
         grid.width,
         grid.height,
         grid.origin_lat,
         grid.lon_step,
         grid.lat_step,
-        test_lines::first_shorts(counts, map.counts),
-        test_lines::first_floats(angles, map.angles),
-        test_lines::first_floats(cosines, map.cosines),
+        test_lines::first(board.counts.as_slice(), map.counts),
+        test_lines::first(board.angles.as_slice(), map.angles),
+        test_lines::first(board.cosines.as_slice(), map.cosines),
         &mut sums[..n],
         test_lines::short_at(asked, 0),
         test_lines::short_at(asked, 1),
@@ -42,10 +34,7 @@ pub fn circle(
 
 // A search.
 pub fn search(
-    map: Map,
-    counts: &[u32],
-    angles: &[f64],
-    cosines: &[f64],
+    board: &Board,
     km: u32,
     automatic: bool,
     spacing: u32,
@@ -55,24 +44,24 @@ pub fn search(
     answer: &mut [u64; 10],
     tolerance: &mut f64,
 ) -> u32
-    ensures { search_left map result answer.new tolerance.new sums.new current.new following.new
-        ≡ search_played map (lent_of map counts.now angles.now cosines.now) automatic spacing km
-        (buffers sums.old current.old following.old)
+    ensures { search_left board.now.map result answer.new tolerance.new (buffers sums.new current.new following.new)
+        ≡ search_played board.now.map (lent_by board.now) automatic spacing km (buffers sums.old current.old following.old)
         answer.old tolerance.old }
 {
+    let map = board.map;
     let grid = map.grid;
-    let n = test_lines::least(map.sums, sums.len());
-    let of_current = test_lines::least(map.current, current.len());
-    let of_following = test_lines::least(map.following, following.len());
+    let n = map.sums.min(sums.len());
+    let of_current = map.current.min(current.len());
+    let of_following = map.following.min(following.len());
     jadurphen::jadurphen_search(
         grid.width,
         grid.height,
         grid.origin_lat,
         grid.lon_step,
         grid.lat_step,
-        test_lines::first_shorts(counts, map.counts),
-        test_lines::first_floats(angles, map.angles),
-        test_lines::first_floats(cosines, map.cosines),
+        test_lines::first(board.counts.as_slice(), map.counts),
+        test_lines::first(board.angles.as_slice(), map.angles),
+        test_lines::first(board.cosines.as_slice(), map.cosines),
         km,
         automatic,
         spacing,
@@ -84,12 +73,9 @@ pub fn search(
     )
 }
 
-// A smallest radius.
+// A smallest radius. It lends as a search does; each passes its own call's arguments, and a common form would hand on as many.
 pub fn smallest(
-    map: Map,
-    counts: &[u32],
-    angles: &[f64],
-    cosines: &[f64],
+    board: &Board,
     share: f64,
     automatic: bool,
     spacing: u32,
@@ -100,25 +86,24 @@ pub fn smallest(
     answer: &mut [u64; 19],
     floats: &mut [f64; 6],
 ) -> u32
-    ensures { smallest_left map result ledger.new answer.new floats.new
-        sums.new current.new following.new
-        ≡ smallest_played map (lent_of map counts.now angles.now cosines.now) automatic spacing share
-        ledger.old (buffers sums.old current.old following.old)
-        answer.old floats.old }
+    ensures { smallest_left board.now.map result ledger.new answer.new floats.new (buffers sums.new current.new following.new)
+        ≡ smallest_played board.now.map (lent_by board.now) automatic spacing share
+        ledger.old (buffers sums.old current.old following.old) answer.old floats.old }
 {
+    let map = board.map;
     let grid = map.grid;
-    let n = test_lines::least(map.sums, sums.len());
-    let of_current = test_lines::least(map.current, current.len());
-    let of_following = test_lines::least(map.following, following.len());
+    let n = map.sums.min(sums.len());
+    let of_current = map.current.min(current.len());
+    let of_following = map.following.min(following.len());
     jadurphen::jadurphen_smallest(
         grid.width,
         grid.height,
         grid.origin_lat,
         grid.lon_step,
         grid.lat_step,
-        test_lines::first_shorts(counts, map.counts),
-        test_lines::first_floats(angles, map.angles),
-        test_lines::first_floats(cosines, map.cosines),
+        test_lines::first(board.counts.as_slice(), map.counts),
+        test_lines::first(board.angles.as_slice(), map.angles),
+        test_lines::first(board.cosines.as_slice(), map.cosines),
         share,
         automatic,
         spacing,

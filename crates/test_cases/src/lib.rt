@@ -2,10 +2,12 @@
 // which a test goes the way that a studio's code goes.
 #![tactic(auto)]
 
+mod buffers;
 mod calls;
 mod map;
 mod sizes;
 
+pub use buffers::Buffers;
 pub use calls::{circle, search, smallest};
-pub use map::{Map, none, set};
+pub use map::{Board, Map, none};
 pub use sizes::{LEDGER_ENTRIES, LEDGER_WORDS};

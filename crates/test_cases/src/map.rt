@@ -1,8 +1,11 @@
 // A map that lines set: G its grid, C its counts, A its angles, K its cosines.
-ghost use Rattle.std.specs.Prelude.{◌≡◌};
-ghost use Rattle.test_cases.specs.Board.{grid_of, no_map, shorts_of, floats_of, board, board_set};
+ghost use Rattle.std.specs.Prelude.{◌≡◌, ℕ, length};
+ghost use Rattle.lists.specs.Front.{over};
+ghost use Rattle.test_lines.specs.Numbers.{or_last};
+ghost use Rattle.test_cases.specs.Board.{grid_of, no_map, board_of, board_set};
 
 use grid::Grid;
+use std::alloc::{AllocError, Global};
 
 // The grid, and how much of each array a call is lent: of counts, angles and cosines as many as were listed last. The words
 // filled are those of the sums that an answer fills, for who looks at them.
@@ -16,6 +19,15 @@ pub struct Map {
     pub current: usize,
     pub following: usize,
     pub filled: usize,
+}
+
+// A map and its arrays.
+#[derive(Drop)]
+pub struct Board {
+    pub map: Map,
+    pub counts: Vec<u32>,
+    pub angles: Vec<f64>,
+    pub cosines: Vec<f64>,
 }
 
 fn grid_of(line: &[u64]) -> Grid
@@ -53,56 +65,69 @@ pub fn none(sums: usize, current: usize, following: usize) -> Map
     }
 }
 
-fn put_shorts(shorts: &mut [u32], line: &[u64])
-    ensures { shorts.new ≡ shorts_of line.now shorts.old }
+// Every place overwritten, by the line's last number where the line has none.
+fn put<T: Drop, F: Fn(u64) -> T + Drop>(places: &mut [T], line: &[u64], of: F)
+    requires { F.IsAlwaysCallable of }
+    ensures { (f : ℕ → T) → ((word : _) (x : T) → F.post of word x → x ≡ f word)
+        → places.new ≡ over (λ i. f (or_last line.now i)) (length places.old) places.old }
 {
-    let mut i: usize = 0;
-    while i < shorts.len() {
-        shorts[i] = test_lines::short_of(test_lines::or_last(line, i));
-        i += 1;
+    for (i, place) in places.iter_mut().enumerate() {
+        *place = of(test_lines::or_last(line, i));
     }
 }
 
-fn put_floats(floats: &mut [f64], line: &[u64])
-    ensures { floats.new ≡ floats_of line.now floats.old }
-{
-    let mut i: usize = 0;
-    while i < floats.len() {
-        floats[i] = floats::from_bits(test_lines::or_last(line, i));
-        i += 1;
+impl Board {
+    // No cells, so many words of each buffer, and room for so many counts, angles and rows.
+    pub fn new(
+        alloc: Global,
+        map: Map,
+        counts: usize,
+        angles: usize,
+        rows: usize,
+    ) -> Result<Board, AllocError> {
+        let counts = vec![in alloc; 0u32; counts]?;
+        let angles = vec![in alloc; 0.0f64; angles]?;
+        let cosines = vec![in alloc; 0.0f64; rows]?;
+        Ok(Board {
+            map,
+            counts,
+            angles,
+            cosines,
+        })
     }
-}
 
-// After a line of another letter the map is as it was. An array's last number stands in every place behind it.
-pub fn set(
-    map: Map,
-    tag: u8,
-    line: &[u64],
-    counts: &mut [u32],
-    angles: &mut [f64],
-    cosines: &mut [f64],
-) -> Map
-    ensures { board result counts.new angles.new cosines.new
-        ≡ board_set (board map counts.old angles.old cosines.old) tag line.now }
-{
-    let mut out = map;
-    if tag == b'G' {
-        out.grid = grid_of(line);
-        return out;
+    // After a line of another letter the map is as it was. An array's last number stands in every place behind it.
+    #[tactic(auto, unfolding(crate::specs::Board::board_set))]
+    pub fn set(&mut self, tag: u8, line: &[u64])
+        ensures { board_of self.new ≡ board_set (board_of self.old) tag line.now }
+    {
+        match tag {
+            b'G' => self.map.grid = grid_of(line),
+            b'C' => {
+                put(
+                    self.counts.as_mut_slice(),
+                    line,
+                    |word| test_lines::short_of(word),
+                );
+                self.map.counts = line.len();
+            }
+            b'A' => {
+                put(
+                    self.angles.as_mut_slice(),
+                    line,
+                    |word| floats::from_bits(word),
+                );
+                self.map.angles = line.len();
+            }
+            b'K' => {
+                put(
+                    self.cosines.as_mut_slice(),
+                    line,
+                    |word| floats::from_bits(word),
+                );
+                self.map.cosines = line.len();
+            }
+            _ => {}
+        }
     }
-    if tag == b'C' {
-        put_shorts(counts, line);
-        out.counts = line.len();
-        return out;
-    }
-    if tag == b'A' {
-        put_floats(angles, line);
-        out.angles = line.len();
-        return out;
-    }
-    if tag == b'K' {
-        put_floats(cosines, line);
-        out.cosines = line.len();
-    }
-    out
 }

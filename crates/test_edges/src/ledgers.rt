@@ -1,30 +1,29 @@
 // Ledgers as words: what lines set, and what of them a call has changed.
 
+// A ledger.
+pub(crate) type Words = [u64; test_cases::LEDGER_WORDS];
+
 // F: the first word of a place, how many places from it on, kilometre, what it rises by from place to place, row, column,
 // population.
 fn fill(ledger: &mut [u64], line: &[u64]) {
     let mut at = test_lines::word_at(line, 0) as usize;
-    let mut left = test_lines::word_at(line, 1);
     let mut km = test_lines::word_at(line, 2);
     let row = test_lines::word_at(line, 4);
     let col = test_lines::word_at(line, 5);
     let population = test_lines::word_at(line, 6);
-    while left > 0 {
+    for _ in 0..test_lines::word_at(line, 1) {
         test_lines::copy(&[km, row, col, population], ledger, at);
-        at = std::num::wrapping_add_usize(at, 4);
-        km = std::num::wrapping_add_u64(km, test_lines::word_at(line, 3));
-        left -= 1;
+        at = at.wrapping_add(4);
+        km = km.wrapping_add(test_lines::word_at(line, 3));
     }
 }
 
 // L: the first words, of which one is the number of entries.
 pub(crate) fn set(tag: u8, line: &[u64], ledger: &mut [u64]) {
-    if tag == b'L' {
-        test_lines::copy(line, ledger, 0);
-        return;
-    }
-    if tag == b'F' {
-        fill(ledger, line);
+    match tag {
+        b'L' => test_lines::copy(line, ledger, 0),
+        b'F' => fill(ledger, line),
+        _ => {}
     }
 }
 
@@ -36,10 +35,10 @@ pub(crate) fn strayed(refusal: u32, line: &[u64], before: &[u64], after: &[u64])
     }
     let from = test_lines::word_at(line, 0) as usize;
     let up = test_lines::word_at(line, 1) as usize;
-    let next = std::num::wrapping_add_usize(from, test_lines::word_at(line, 2) as usize);
-    let rest = std::num::wrapping_add_usize(next, up);
-    let first = test_lines::differing(before, 1, after, 1, std::num::wrapping_sub_usize(from, 1));
+    let next = from.wrapping_add(test_lines::word_at(line, 2) as usize);
+    let rest = next.wrapping_add(up);
+    let first = test_lines::differing(before, 1, after, 1, from.wrapping_sub(1));
     let moved = test_lines::differing(before, from, after, next, up);
     let last = test_lines::differing(before, rest, after, rest, test_cases::LEDGER_WORDS);
-    std::num::wrapping_add_u64(first, std::num::wrapping_add_u64(moved, last))
+    first.wrapping_add(moved).wrapping_add(last)
 }

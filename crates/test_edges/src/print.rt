@@ -7,31 +7,10 @@ pub(crate) const BEFORE: u64 = 7;
 // How many words the sums and each level buffer have.
 pub(crate) const BUFFER: usize = 400;
 
-// Bytes as they are.
-pub(crate) fn text(rt: &impl Print, bytes: &[u8]) -> io::Result<()> {
-    rt.write_all(bytes)
-}
-
-// A number after a space.
-pub(crate) fn number(rt: &impl Print, n: u64) -> io::Result<()> {
-    print!(rt; " {n}")
-}
-
 // A case's name, which is printed but for the two bytes before it and the newline.
-pub(crate) fn name(rt: &impl Print, tag: u8, line: &[u8]) -> io::Result<()> {
-    let n = line.len();
-    if tag != 0 || test_lines::byte_at(line, 0, 0) != b'=' {
-        return Ok(());
-    }
-    if 2 < n {
-        text(rt, &line[2..n - 1])?;
-    }
-    Ok(())
-}
-
-fn all(rt: &impl Print, words: &[u64]) -> io::Result<()> {
-    for word in words {
-        number(rt, *word)?;
+pub(crate) fn name(rt: &impl Print, line: &[u8]) -> io::Result<()> {
+    if let [b'=', _, name @ .., _] = line {
+        rt.write_all(name)?;
     }
     Ok(())
 }
@@ -45,9 +24,9 @@ pub(crate) fn changed(
 ) -> io::Result<()> {
     let before = [BEFORE; BUFFER];
     let from = if refusal == 0 { place } else { 0 };
-    number(
-        rt,
-        test_lines::differing(words, from, &before, from, BUFFER),
+    print!(rt;
+        " {}",
+        test_lines::differing(words, from, &before, from, BUFFER)
     )
 }
 
@@ -59,26 +38,20 @@ pub(crate) fn answer(
     sums: &[u64],
     filled: usize,
 ) -> io::Result<()> {
-    text(rt, b":")?;
     if refusal == 0 {
-        all(rt, words)?;
-        text(rt, b" of")?;
-        number(
-            rt,
-            test_lines::word_at(sums, std::num::wrapping_sub_usize(filled, 1)),
-        )?;
+        print!(rt; ":")?;
+        for word in words {
+            print!(rt; " {word}")?;
+        }
+        print!(rt; " of {}", test_lines::word_at(sums, filled.wrapping_sub(1)))?;
     } else {
-        text(rt, b" refused")?;
-        number(rt, refusal as u64)?;
+        print!(rt; ": refused {refusal}")?;
     }
-    text(rt, b", changed")?;
+    print!(rt; ", changed")?;
     changed(rt, refusal, sums, filled)
 }
 
 // The end of a line of a call that is lent a ledger: how many words have changed that should not have, and the entries.
 pub(crate) fn entries(rt: &impl Print, changed: u64, ledger: &[u64]) -> io::Result<()> {
-    number(rt, changed)?;
-    text(rt, b",")?;
-    number(rt, test_lines::word_at(ledger, 0))?;
-    text(rt, b" entries")
+    print!(rt; " {changed}, {} entries", test_lines::word_at(ledger, 0))
 }

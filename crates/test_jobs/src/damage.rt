@@ -1,140 +1,117 @@
 // Damaged copies of a job: cut at every length, and with every byte replaced. Each must print whole lines and at most one
 // refusal, the last.
-use crate::text;
 
-// What copies printed: by the refusal's number, 0 for none and 31 for anything but such lines.
+// What a copy printed: lines of answers, a refusal by its number behind them, or anything else.
+#[derive(Clone, Copy, PartialEq, Eq)]
+enum Printed {
+    Answers,
+    Refused(usize),
+    NotLines,
+}
+
+// The refusals are numbered from 1 on, below this.
+pub(crate) const REFUSALS: usize = 16;
+
+// How many copies printed what.
 #[derive(Clone, Copy)]
 pub struct Tally {
     pub copies: u64,
-    pub by: [u64; 32],
+    pub not_refused: u64,
+    pub refused: [u64; REFUSALS],
+    pub not_lines: u64,
 }
 
-// Stands for anything but whole lines.
-const NOT_LINES: u8 = 31;
-
-// The number of values that take a byte's place.
-const VALUES: u8 = 10;
-
-// Nothing run.
-pub(crate) fn none() -> Tally {
-    let by = [0u64; 32];
-    Tally { copies: 0, by }
+// The number of a refusal's line.
+fn refusal_of(line: &[u8]) -> Option<usize> {
+    let number = line.strip_prefix(b"refused ")?.strip_suffix(b"\n")?;
+    str::from_utf8(number).ok()?.parse().ok()
 }
 
-fn tallied(tally: Tally, number: u8) -> Tally {
-    let mut out = tally;
-    let place = (number % 32) as usize;
-    if place < 32 {
-        out.by[place] = text::more(tally.by[place]);
+fn printed_line(line: &[u8]) -> Printed {
+    if line.last() != Some(&b'\n') {
+        return Printed::NotLines;
     }
-    out.copies = text::more(tally.copies);
-    out
+    match line.first() {
+        Some(b'm' | b'l') => Printed::Answers,
+        _ => refusal_of(line).map_or(Printed::NotLines, Printed::Refused),
+    }
 }
 
-// The number of a refusal's line, of one or two digits.
-fn refusal_of(line: &[u8]) -> u8 {
-    let first = test_lines::byte_at(line, 8, 0) % 16;
-    let second = test_lines::byte_at(line, 9, 0);
-    if second == b'\n' {
-        return first;
-    }
-    (first * 10 + second % 16) % 32
-}
-
-// 0 for the line of an answer, the number of a refusal's, 31 for any other.
-fn number_of(line: &[u8]) -> u8 {
-    let first = test_lines::byte_at(line, 0, 0);
-    if line.len() == 0 {
-        return NOT_LINES;
-    }
-    if test_lines::byte_at(line, line.len() - 1, 0) != b'\n' {
-        return NOT_LINES;
-    }
-    if first == b'm' || first == b'l' {
-        return 0;
-    }
-    if first == b'r' {
-        return refusal_of(line);
-    }
-    NOT_LINES
-}
-
-// The same of all lines: a refusal is the last.
-fn number_of_all(printed: &[u8]) -> u8 {
-    let mut at: usize = 0;
-    let mut number: u8 = 0;
-    while at < printed.len() {
-        if number != 0 {
-            return NOT_LINES;
+// A refusal is the last line.
+fn printed_lines(printed: &[u8]) -> Printed {
+    let mut last = Printed::Answers;
+    for line in printed.split_inclusive(|b| *b == b'\n') {
+        if last != Printed::Answers {
+            return Printed::NotLines;
         }
-        let next = test_lines::after_line(printed, at);
-        number = number_of(&printed[at..next]);
-        at = next;
+        last = printed_line(line);
     }
-    number
-}
-
-fn run(tally: Tally, job: &[u8], printed: &mut [u8]) -> Tally {
-    let count = job_output::run(job, printed);
-    if printed.len() < count {
-        return tallied(tally, NOT_LINES);
-    }
-    tallied(tally, number_of_all(&printed[..count]))
-}
-
-// Every length, the whole job's too.
-pub(crate) fn cut(tally: Tally, job: &[u8], printed: &mut [u8]) -> Tally {
-    let mut out = tally;
-    let mut n: usize = 0;
-    while n < job.len() {
-        out = run(out, &job[..n], printed);
-        n += 1;
-    }
-    run(out, job, printed)
+    last
 }
 
 // Values that are likely to matter: ends of ranges, commands, neighbours, single bits.
-fn value(old: u8, which: u8) -> u8 {
-    match which {
-        0 => 0,
-        1 => 255,
-        2 => b'E',
-        3 => b'M',
-        4 => b'G',
-        5 => old / 2,
-        6 => std::num::wrapping_add_u8(old, 1),
-        7 => std::num::wrapping_sub_u8(old, 1),
-        8 => std::num::wrapping_add_u8(old, 128),
-        _ => std::num::wrapping_add_u8(old, 16),
-    }
+fn values(old: u8) -> [u8; 10] {
+    [
+        0,
+        255,
+        b'E',
+        b'M',
+        b'G',
+        old / 2,
+        old.wrapping_add(1),
+        old.wrapping_sub(1),
+        old.wrapping_add(128),
+        old.wrapping_add(16),
+    ]
 }
 
-fn set_byte(job: &mut [u8], at: usize, b: u8) {
-    if at < job.len() {
-        job[at] = b;
+impl Tally {
+    // Nothing run.
+    pub(crate) fn none() -> Tally {
+        Tally {
+            copies: 0,
+            not_refused: 0,
+            refused: [0; REFUSALS],
+            not_lines: 0,
+        }
     }
-}
 
-fn changed_at(tally: Tally, job: &mut [u8], at: usize, printed: &mut [u8]) -> Tally {
-    let old = test_lines::byte_at(job, at, 0);
-    let mut out = tally;
-    let mut which: u8 = 0;
-    while which < VALUES {
-        set_byte(job, at, value(old, which));
-        out = run(out, job, printed);
-        which += 1;
+    fn count(&mut self, printed: Printed) {
+        self.copies = self.copies.saturating_add(1);
+        match printed {
+            Printed::Answers => self.not_refused = self.not_refused.saturating_add(1),
+            Printed::Refused(number) if number < REFUSALS => {
+                self.refused[number] = self.refused[number].saturating_add(1);
+            }
+            _ => self.not_lines = self.not_lines.saturating_add(1),
+        }
     }
-    set_byte(job, at, old);
-    out
-}
 
-// Every byte, by each of the values.
-pub(crate) fn changed(tally: Tally, job: &mut [u8], printed: &mut [u8]) -> Tally {
-    let mut out = tally;
-    let mut at: usize = 0;
-    while at < job.len() {
-        out = changed_at(out, job, at, printed);
-        at += 1;
+    fn run(&mut self, job: &[u8], room: &mut [u8]) {
+        let count = job_output::run(job, room);
+        let printed = match room.get(..count) {
+            Some(printed) => printed_lines(printed),
+            None => Printed::NotLines,
+        };
+        self.count(printed);
     }
-    out
+
+    // Every length, the whole job's too.
+    pub(crate) fn cut(&mut self, job: &[u8], room: &mut [u8]) {
+        for n in 0..=job.len() {
+            self.run(&job[..n], room);
+        }
+    }
+
+    // Every byte, by each of the values.
+    pub(crate) fn changed(&mut self, job: &mut [u8], room: &mut [u8]) {
+        for at in 0..job.len() {
+            let old = job[at];
+            for value in values(old) {
+                job[at] = value;
+                self.run(job, room);
+            }
+            job[at] = old;
+        }
+    }
 }

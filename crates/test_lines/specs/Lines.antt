@@ -1,17 +1,10 @@
 -- A list's lines, and the numbers of a line.
-use Rattle.std.specs.Prelude.{ℕ, suc, ◌+◌, ◌-◌, ◌*◌, ◌^◌, Bool, cond, ◌&&◌, List, [], ◌∷◌, eqb, leb, ltb, get_or, set, drop}
+use Rattle.std.specs.Prelude.{ℕ, ◌+◌, ◌-◌, ◌*◌, ◌^◌, Bool, cond, ◌&&◌, List, eqb, leb, ltb, set, drop, slice_get, None}
 use Rattle.lists.specs.Lists.{fold}
 use Rattle.test_lines.specs.declared.reader.Line.{Line}
 
--- ---- lines
-
 abbrev pub line_end : ℕ
 line_end = 10
-
--- the bytes of the first line, its newline byte with them
-unfoldable pub line_length : List ℕ → ℕ
-line_length [] = 0
-line_length (b ∷ bs) = let rest = line_length bs in suc (cond (eqb b line_end) 0 rest)
 
 -- ---- the numbers of a line
 
@@ -24,20 +17,20 @@ digit0 = 48
 abbrev pub digit9 : ℕ
 digit9 = 57
 
--- a number with one more digit fits in 64 bits
-unfoldable pub has_room : ℕ → ℕ → Bool
-has_room value b = ltb (value * 10 + (b - digit0)) (2 ^ 64)
+-- the last number with one more digit
+abbrev pub with_digit : Line → ℕ → ℕ
+with_digit r b = r.value * 10 + (b - digit0)
 
 -- a decimal digit of a number that has begun and with it fits
 unfoldable pub fits : Line → ℕ → Bool
-fits r b = leb digit0 b && leb b digit9 && ltb 0 r.count && has_room r.value b
+fits r b = leb digit0 b && leb b digit9 && ltb 0 r.count && ltb (with_digit r b) (2 ^ 64)
 
 -- a digit goes to the number; a byte that is none takes the letter away
 unfoldable pub took_digit : Line → ℕ → Line
 took_digit r b =
     cond (fits r b)
-    (record { tag = r.tag; count = r.count; value = r.value * 10 + (b - digit0) })
-    (record { tag = 0; count = r.count; value = r.value })
+    (record { tag = r.tag; count = r.count; value = with_digit r b })
+    (record { tag = None; count = r.count; value = r.value })
 
 -- one more byte: a space begins a number, a newline byte changes nothing
 unfoldable pub took : Line → ℕ → Line
@@ -55,9 +48,9 @@ last_put r words = cond (ltb 0 r.count) (set words (r.count - 1) r.value) words
 unfoldable pub read_byte : Reading → ℕ → Reading
 read_byte s b = let r = took s.line b in record { line = r; words = last_put r s.words }
 
--- the letter alone
+-- the letter alone, where there is one
 abbrev pub letter_of : List ℕ → Line
-letter_of line = record { tag = get_or line 0 0; count = 0; value = 0 }
+letter_of line = record { tag = slice_get line 0; count = 0; value = 0 }
 
 -- a line read to its end, its numbers put into the words as far as there is room
 unfoldable pub line_read : List ℕ → List ℕ → Reading

@@ -3,11 +3,8 @@
 
 mod numbers;
 mod reader;
-mod text;
 
 pub use numbers::{
-    bits_of, copy, differing, first_floats, first_shorts, first_words, float_at, least, or_last,
-    short_at, short_of, word_at,
+    beyond, bits_of, copy, differing, first, float_at, or_last, short_at, short_of, word_at,
 };
 pub use reader::{Line, numbers_of};
-pub use text::{after_line, byte_at, read};

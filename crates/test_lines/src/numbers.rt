@@ -1,5 +1,5 @@
 // What a listed number stands for: a float, a 32-bit number, a place; and words that differ.
-ghost use Rattle.std.specs.Prelude.{◌+◌, min, ◌≡◌, take, set};
+ghost use Rattle.std.specs.Prelude.{◌≡◌, take, drop};
 ghost use Rattle.std.specs.Float.{binary64};
 ghost use Rattle.std.specs.Float.Ieee.{to_bits};
 ghost use Rattle.std.proofs.lemmas.List.Edits.{sets};
@@ -12,30 +12,22 @@ const NAN: u64 = 0x7ff8000000000000;
 pub fn bits_of(x: f64) -> u64
     ensures { result ≡ to_bits binary64 x }
 {
-    if x != x {
-        return NAN;
-    }
-    f64::to_bits(x)
+    if x.is_nan() { NAN } else { x.to_bits() }
 }
 
 // Numbers beyond 32 bits become the largest.
+#[tactic(auto, unfolding(crate::specs::Numbers::short_of))]
 pub fn short_of(word: u64) -> u32
     ensures { result ≡ short_of word }
 {
-    if word < u32::MAX as u64 {
-        return word as u32;
-    }
-    u32::MAX
+    u32::try_from(word).unwrap_or(u32::MAX)
 }
 
 // The number at a place, or 0 where there is none.
 pub fn word_at(line: &[u64], at: usize) -> u64
     ensures { result ≡ number_at line.now at }
 {
-    if at < line.len() {
-        return line[at];
-    }
-    0
+    line.get(at).copied().unwrap_or(0)
 }
 
 // The number at a place as one of 32 bits.
@@ -53,95 +45,46 @@ pub fn float_at(line: &[u64], at: usize) -> f64
 }
 
 // The number at a place, or the last one behind it.
+#[tactic(auto, unfolding(crate::specs::Numbers::or_last))]
 pub fn or_last(line: &[u64], i: usize) -> u64
     ensures { result ≡ or_last line.now i }
 {
-    let n = line.len();
-    if i < n {
-        return line[i];
-    }
-    if n == 0 {
-        return 0;
-    }
-    line[n - 1]
-}
-
-// A word put i places behind another one, where there is room.
-pub(crate) fn put_word(words: &mut [u64], at: usize, i: usize, value: u64)
-    ensures { words.new ≡ set words.old (at + i) value }
-{
-    if at < words.len() {
-        if i < words.len() - at {
-            words[at + i] = value;
-        }
-    }
+    line.get(i).or(line.last()).copied().unwrap_or(0)
 }
 
 // The words of a line or an array, put into another from a place on, as far as there is room.
 pub fn copy(from: &[u64], to: &mut [u64], at: usize)
     ensures { to.new ≡ sets to.old at from.now }
 {
-    let mut i: usize = 0;
-    while i < from.len() {
-        put_word(to, at, i, from[i]);
-        i += 1;
-    }
-}
-
-// The lesser of two.
-pub fn least(a: usize, b: usize) -> usize
-    ensures { result ≡ min a b }
-{
-    if a < b { a } else { b }
+    let at = at.min(to.len());
+    let n = from.len().min(to.len() - at);
+    to[at..at + n].copy_from_slice(&from[..n]);
 }
 
 // The first n, or all where there are fewer.
-pub fn first_words<'a>(words: &'a [u64], n: usize) -> &'a [u64]
-    ensures { result.now ≡ take n words.now }
+pub fn first<T>(xs: &[T], n: usize) -> &[T]
+    ensures { result.now ≡ take n xs.now }
 {
-    let k = least(n, words.len());
-    &words[..k]
+    xs.get(..n).unwrap_or(xs)
 }
 
-// The first n, or all where there are fewer.
-pub fn first_shorts<'a>(shorts: &'a [u32], n: usize) -> &'a [u32]
-    ensures { result.now ≡ take n shorts.now }
+// What is left behind the first n; nothing where there are fewer.
+pub fn beyond<T>(xs: &[T], n: usize) -> &[T]
+    ensures { result.now ≡ drop n xs.now }
 {
-    let k = least(n, shorts.len());
-    &shorts[..k]
-}
-
-// The first n, or all where there are fewer.
-pub fn first_floats<'a>(floats: &'a [f64], n: usize) -> &'a [f64]
-    ensures { result.now ≡ take n floats.now }
-{
-    let k = least(n, floats.len());
-    &floats[..k]
-}
-
-// The word i places behind another one, 0 where there is none.
-fn word_behind(words: &[u64], from: usize, i: usize) -> u64
-    ensures { result ≡ number_at words.now (from + i) }
-{
-    if words.len() <= from {
-        return 0;
-    }
-    if words.len() - from <= i {
-        return 0;
-    }
-    words[from + i]
+    let none: &[T] = &[];
+    xs.get(n..).unwrap_or(none)
 }
 
 // How many of n words of a, from place i on, are not those of b from place j on. Beyond an end there are zeros.
 pub fn differing(a: &[u64], i: usize, b: &[u64], j: usize, n: usize) -> u64
     ensures { result ≡ differing a.now i b.now j n }
 {
-    let mut count: u64 = 0;
-    let mut k: usize = 0;
-    while k < n {
-        let differ = word_behind(a, i, k) != word_behind(b, j, k);
-        count += differ as u64;
-        k += 1;
+    let a = beyond(a, i);
+    let b = beyond(b, j);
+    let mut count = 0;
+    for k in 0..n {
+        count += u64::from(word_at(a, k) != word_at(b, k));
     }
     count
 }

@@ -1,85 +1,30 @@
 // The calls: each is put to the module, with buffers for the largest map of the list. It agrees where it returns the
 // listed number, 0 or that of a refusal, and after an answer where every field is the listed one.
-use test_cases::Map;
+use std::alloc::{AllocError, Global};
+use test_cases::{Board, Buffers};
 
-// The words of the sums and of a level buffer for the largest map.
-pub(crate) const SUMS: usize = 1525;
+// The counts, angles and rows of the largest map of the list, and the words of its sums and of a level buffer.
+const COUNTS: usize = 1440;
 
-pub(crate) const BLOCKS: usize = 1440;
+const ANGLES: usize = 17856;
 
-// P: km, cell; population.
-fn circle(
-    line: &[u64],
-    map: Map,
-    counts: &[u32],
-    angles: &[f64],
-    cosines: &[f64],
-    listed: u32,
-) -> bool {
-    let mut sums = [0u64; SUMS];
-    let mut population: u64 = 0;
-    let number = test_cases::circle(
-        map,
-        counts,
-        angles,
-        cosines,
-        line,
-        &mut sums,
-        &mut population,
-    );
-    if number != 0 {
-        return number == listed;
-    }
-    listed == 0 && population == test_lines::word_at(line, 3)
-}
+const ROWS: usize = 90;
 
-// S: km; the automatic spacing.
-fn spacing(line: &[u64], map: Map) -> bool {
-    let km = test_lines::short_at(line, 0) as f64;
-    spacing::initial_spacing(map.grid, km) as u64 == test_lines::word_at(line, 1)
+const SUMS: usize = 1525;
+
+const BLOCKS: usize = 1440;
+
+// What is known between two lines: the map that they have set, and the ledger. The buffers are each call's.
+#[derive(Drop)]
+pub struct Replay {
+    pub board: Board,
+    ledger: Vec<u64>,
+    buffers: Buffers,
 }
 
 fn found_agrees(line: &[u64], words: &[u64; 10], tolerance: f64) -> bool {
-    if test_lines::bits_of(tolerance) != test_lines::word_at(line, 10) {
-        return false;
-    }
-    test_lines::differing(words, 0, line, 2, 8) == 0
-}
-
-// M: spacing, 0 for the automatic one, km; centre, counts, tolerance.
-fn search(
-    line: &[u64],
-    map: Map,
-    counts: &[u32],
-    angles: &[f64],
-    cosines: &[f64],
-    listed: u32,
-) -> bool {
-    let mut sums = [0u64; SUMS];
-    let mut current = [0u64; BLOCKS];
-    let mut following = [0u64; BLOCKS];
-    let mut words = [0u64; 10];
-    let mut tolerance = 0.0;
-    let side = test_lines::short_at(line, 0);
-    let km = test_lines::short_at(line, 1);
-    let number = test_cases::search(
-        map,
-        counts,
-        angles,
-        cosines,
-        km,
-        side == 0,
-        side,
-        &mut sums,
-        &mut current,
-        &mut following,
-        &mut words,
-        &mut tolerance,
-    );
-    if number != 0 {
-        return number == listed;
-    }
-    listed == 0 && found_agrees(line, &words, tolerance)
+    test_lines::bits_of(tolerance) == test_lines::word_at(line, 10)
+        && test_lines::differing(words, 0, line, 2, 8) == 0
 }
 
 // The 25 numbers of a smallest radius, in the order in which a line has them.
@@ -113,90 +58,102 @@ fn in_order(w: &[u64; 19], f: &[f64; 6]) -> [u64; 25] {
     ]
 }
 
-// R: spacing, 0 for the automatic one, share; then the answer.
-fn smallest(
-    line: &[u64],
-    map: Map,
-    counts: &[u32],
-    angles: &[f64],
-    cosines: &[f64],
-    ledger: &mut [u64],
-    listed: u32,
-) -> bool {
-    let mut sums = [0u64; SUMS];
-    let mut current = [0u64; BLOCKS];
-    let mut following = [0u64; BLOCKS];
-    let mut words = [0u64; 19];
-    let mut floats = [0.0f64; 6];
-    let side = test_lines::short_at(line, 0);
-    let share = test_lines::float_at(line, 1);
-    let number = test_cases::smallest(
-        map,
-        counts,
-        angles,
-        cosines,
-        share,
-        side == 0,
-        side,
-        ledger,
-        &mut sums,
-        &mut current,
-        &mut following,
-        &mut words,
-        &mut floats,
-    );
-    if number != 0 {
-        return number == listed;
+impl Replay {
+    pub(crate) fn new(alloc: Global) -> Result<Replay, AllocError> {
+        let map = test_cases::none(SUMS, BLOCKS, BLOCKS);
+        let board = Board::new(alloc, map, COUNTS, ANGLES, ROWS)?;
+        let ledger = vec![in alloc; 0u64; test_cases::LEDGER_WORDS]?;
+        let buffers = Buffers::new(alloc, 0, SUMS, BLOCKS)?;
+        Ok(Replay {
+            board,
+            ledger,
+            buffers,
+        })
     }
-    let answer = in_order(&words, &floats);
-    listed == 0 && test_lines::differing(&answer, 0, line, 2, 25) == 0
-}
 
-// What leaves the ledger as it is. E: the ledger after the last smallest radius. A line that only sets the map agrees.
-fn agrees_with(
-    tag: u8,
-    line: &[u64],
-    map: Map,
-    counts: &[u32],
-    angles: &[f64],
-    cosines: &[f64],
-    ledger: &[u64],
-) -> bool {
-    match tag {
-        b'P' => circle(line, map, counts, angles, cosines, 0),
-        b'S' => spacing(line, map),
-        b'M' => search(line, map, counts, angles, cosines, 0),
-        b'E' => test_lines::differing(ledger, 0, line, 0, line.len()) == 0,
-        _ => true,
+    // P: km, cell; population.
+    fn circle(&mut self, line: &[u64], listed: u32) -> bool {
+        let mut population: u64 = 0;
+        let sums = self.buffers.sums.as_mut_slice();
+        let number = test_cases::circle(&self.board, line, sums, &mut population);
+        if number != 0 {
+            return number == listed;
+        }
+        listed == 0 && population == test_lines::word_at(line, 3)
     }
-}
 
-// L sets the ledger; Q: the number by which a circle, a search and a smallest radius are refused, whatever they ask.
-pub(crate) fn agrees(
-    tag: u8,
-    line: &[u64],
-    map: Map,
-    counts: &[u32],
-    angles: &[f64],
-    cosines: &[f64],
-    ledger: &mut [u64],
-) -> bool {
-    if tag == b'L' {
-        test_lines::copy(line, ledger, 0);
-        return true;
+    // S: km; the automatic spacing.
+    fn spacing(&self, line: &[u64]) -> bool {
+        let km = test_lines::short_at(line, 0) as f64;
+        spacing::initial_spacing(self.board.map.grid, km) as u64 == test_lines::word_at(line, 1)
     }
-    if tag == b'R' {
-        return smallest(line, map, counts, angles, cosines, ledger, 0);
+
+    // M: spacing, 0 for the automatic one, km; centre, counts, tolerance.
+    fn search(&mut self, line: &[u64], listed: u32) -> bool {
+        let mut words = [0u64; 10];
+        let mut tolerance = 0.0;
+        let side = test_lines::short_at(line, 0);
+        let number = test_cases::search(
+            &self.board,
+            test_lines::short_at(line, 1),
+            side == 0,
+            side,
+            &mut self.buffers.sums,
+            &mut self.buffers.current,
+            &mut self.buffers.following,
+            &mut words,
+            &mut tolerance,
+        );
+        if number != 0 {
+            return number == listed;
+        }
+        listed == 0 && found_agrees(line, &words, tolerance)
     }
-    if tag == b'Q' {
+
+    // R: spacing, 0 for the automatic one, share; then the answer.
+    fn smallest(&mut self, line: &[u64], listed: u32) -> bool {
+        let mut words = [0u64; 19];
+        let mut floats = [0.0f64; 6];
+        let side = test_lines::short_at(line, 0);
+        let number = test_cases::smallest(
+            &self.board,
+            test_lines::float_at(line, 1),
+            side == 0,
+            side,
+            &mut self.ledger,
+            &mut self.buffers.sums,
+            &mut self.buffers.current,
+            &mut self.buffers.following,
+            &mut words,
+            &mut floats,
+        );
+        if number != 0 {
+            return number == listed;
+        }
+        let answer = in_order(&words, &floats);
+        listed == 0 && test_lines::differing(&answer, 0, line, 2, 25) == 0
+    }
+
+    // Q: the number by which a circle, a search and a smallest radius are refused, whatever they ask.
+    fn refused(&mut self, line: &[u64]) -> bool {
         let listed = test_lines::short_at(line, 0);
-        if !smallest(line, map, counts, angles, cosines, ledger, listed) {
-            return false;
-        }
-        if !circle(line, map, counts, angles, cosines, listed) {
-            return false;
-        }
-        return search(line, map, counts, angles, cosines, listed);
+        self.smallest(line, listed) && self.circle(line, listed) && self.search(line, listed)
     }
-    agrees_with(tag, line, map, counts, angles, cosines, ledger)
+
+    // L sets the ledger; E: the ledger after the last smallest radius. A line that only sets the map agrees.
+    pub(crate) fn agrees(&mut self, tag: u8, line: &[u64]) -> bool {
+        match tag {
+            b'L' => {
+                test_lines::copy(line, &mut self.ledger, 0);
+                true
+            }
+            b'R' => self.smallest(line, 0),
+            b'Q' => self.refused(line),
+            b'P' => self.circle(line, 0),
+            b'S' => self.spacing(line),
+            b'M' => self.search(line, 0),
+            b'E' => test_lines::differing(&self.ledger, 0, line, 0, line.len()) == 0,
+            _ => true,
+        }
+    }
 }

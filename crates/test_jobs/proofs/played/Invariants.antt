@@ -1,9 +1,6 @@
--- The list's lines in turn.
-use Rattle.std.proofs.Common.{◌-◌, ◌≤◌, length}
+-- What is left of the list.
+use Rattle.std.proofs.Common.{length}
 use Rattle.test_jobs.proofs.played.Given as goal
 
-abbrev pub invariant-loop-at : goal.invariant-loop-at
-invariant-loop-at l = l.at ≤ length l.list
-
-abbrev pub decreases-loop-at : goal.decreases-loop-at
-decreases-loop-at l = length l.list - l.at
+abbrev pub decreases-loop-end : goal.decreases-loop-end
+decreases-loop-end l = length l.rest

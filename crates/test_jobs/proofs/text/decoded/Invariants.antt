@@ -1,9 +1,6 @@
--- The text's bytes in turn.
-use Rattle.std.proofs.Common.{◌-◌, ◌≤◌, length}
+-- The first of two digits is one.
+use Rattle.std.proofs.Common.{◌<◌, IfSome}
 use Rattle.test_jobs.proofs.text.decoded.Given as goal
 
-abbrev pub invariant-loop-i : goal.invariant-loop-i
-invariant-loop-i l = l.i ≤ length l.line
-
-abbrev pub decreases-loop-i : goal.decreases-loop-i
-decreases-loop-i l = length l.line - l.i
+abbrev pub invariant-loop-b : goal.invariant-loop-b
+invariant-loop-b l = IfSome l.high (λ d. d < 16)

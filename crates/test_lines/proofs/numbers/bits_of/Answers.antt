@@ -1,13 +1,14 @@
--- The one float that differs from itself is the one that is not a number.
-use lib.Ieee.{to_bits}
-use lib.Ieee.Compare.{differs_from_itself}
-use Rattle.lists.proofs.Bools.{of_true}
-use Rattle.floats.proofs.Next.{no_nan_of}
+-- The one float that is not a number has these bits.
+use Rattle.std.proofs.Common.{◌≡◌, true, Float, refl, rules}
+use Rattle.std.specs.Float.{binary64}
+use lib.Ieee.{nan, inf, fin, is_nan, to_bits}
 use Rattle.test_lines.proofs.numbers.bits_of.Goals as goal
 
-pub returns-then-x : goal.returns-then-x
-unfolding to_bits
-returns-then-x c = rw (differs_from_itself _ (of_true _ c.if-x.true))
+bits_of_nan : (x : Float) → is_nan x ≡ true → 0x7ff8000000000000 ≡ to_bits binary64 x
+unfolding is_nan to_bits
+bits_of_nan nan e = refl
+bits_of_nan (inf s) e = cc
+bits_of_nan (fin s m k) e = cc
 
-pub float_to_bits-result : goal.float_to_bits-result
-float_to_bits-result c = no_nan_of c.args.x c.if-x.false
+pub returns-then-is_nan : goal.returns-then-is_nan
+returns-then-is_nan c = bits_of_nan c.args.x (search rules)

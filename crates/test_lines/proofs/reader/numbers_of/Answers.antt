@@ -1,30 +1,24 @@
--- Invariant: the bytes before i are read; a byte begins at most one number.
-use Prim.Native.Nat.{◌-◌}
-use mathlib.Core.Path.{refl}
-use native.Mathlib.Omega.{arith}
-use lib.ListN.{get_or}
-use borrow.Author.Rules.{rules}
-use Rattle.test_lines.proofs.Lines.{took_count, read_none, read_more, read_all}
+-- The letter, then the bytes behind it in turn.
+use Rattle.std.proofs.Common.{arith, get_or, ◌∙◌, ap}
+use lib.Seq.{take_all}
+use Rattle.lists.specs.Lists.{fold}
+use Rattle.test_lines.specs.Lines.{Reading, read_byte, letter_of, line_read}
+use Rattle.test_lines.proofs.Lines.{took_count, read_more}
 use Rattle.test_lines.proofs.reader.numbers_of.Goals as goal
 
-pub loop-i-init : goal.loop-i-init
-loop-i-init c = (omega arith, omega arith, refl, read_none c.args.line.now _ _ c.byte_at.ensures)
+pub loop-b-init : goal.loop-b-init
+unfolding fold
+loop-b-init c = (omega arith, rw (c.copied.ensures, c.first.ensures.value))
 
-pub took-r-requires : goal.took-r-requires
-took-r-requires c = omega (arith, c.loop-i.invariant)
-
-pub loop-i-preserved : goal.loop-i-preserved
-loop-i-preserved c =
-    let loop = c.loop-i in
-    let a = c.args in
-    let took = c.took-r.ensures in
-    let test = c.loop-i-test.true in
-    let few = rw (← took) at (took_count loop.r (get_or a.line.now loop.i 0)) in (
-      omega arith,
-      omega (arith, loop.invariant, few),
-      search rules,
-      read_more a.line.now _ loop.r _ loop.words _ loop.i (omega (arith, loop.invariant)) test took c.put_last.ensures loop.invariant.3,
-    )
+pub loop-b-preserved : goal.loop-b-preserved
+loop-b-preserved c =
+    let loop = c.loop-b in
+    let bytes = c.beyond-rest.result.now in
+    rw (c.put_last.ensures, c.took-r.ensures)
+    (omega (arith, loop.invariant, took_count loop.r (get_or bytes loop.b-index 0)), read_more _ bytes loop.b-index loop.r loop.words c.loop-b-test.true loop.invariant.1)
 
 pub returns : goal.returns
-returns c = read_all c.args.line.now _ _ c.loop-i.i c.loop-i-test.false c.loop-i.invariant.3
+unfolding line_read
+returns c =
+    let first : Reading = record { line = letter_of c.args.line.now; words = c.args.words.now } in
+    c.loop-b.invariant.1 ∙ ap (fold read_byte first) (take_all _ _ c.loop-b-test.false ∙ c.beyond-rest.ensures)

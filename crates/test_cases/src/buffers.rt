@@ -1,0 +1,24 @@
+// The words that a call is lent.
+use std::alloc::{AllocError, Global};
+
+// The words lent for the sums and the two level buffers.
+#[derive(Drop)]
+pub struct Buffers {
+    pub sums: Vec<u64>,
+    pub current: Vec<u64>,
+    pub following: Vec<u64>,
+}
+
+impl Buffers {
+    // So many words of each, all one value.
+    pub fn new(alloc: Global, word: u64, sums: usize, level: usize) -> Result<Buffers, AllocError> {
+        let sums = vec![in alloc; word; sums]?;
+        let current = vec![in alloc; word; level]?;
+        let following = vec![in alloc; word; level]?;
+        Ok(Buffers {
+            sums,
+            current,
+            following,
+        })
+    }
+}

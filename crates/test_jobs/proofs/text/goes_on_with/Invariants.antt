@@ -1,9 +1,0 @@
--- The printed bytes in turn.
-use Rattle.std.proofs.Common.{◌-◌, ◌≤◌}
-use Rattle.test_jobs.proofs.text.goes_on_with.Given as goal
-
-abbrev pub invariant-loop-i : goal.invariant-loop-i
-invariant-loop-i l = l.i ≤ l.count
-
-abbrev pub decreases-loop-i : goal.decreases-loop-i
-decreases-loop-i l = l.count - l.i
