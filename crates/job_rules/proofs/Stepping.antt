@@ -5,7 +5,6 @@ use mathlib.Core.List.{List}
 use lib.ListN.{drop}
 use Rattle.std.proofs.Common.{Option, Some, None}
 use Rattle.job_rules.specs.declared.Applied.{Applied}
-use Rattle.job_commands.specs.declared.Command.{Command}
 use Rattle.job_commands.specs.declared.Decoded.{Decoded}
 use Rattle.job_world.specs.declared.JobState.{JobState}
 use Rattle.job_commands.specs.Command.{decode}
