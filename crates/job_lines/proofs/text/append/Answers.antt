@@ -1,7 +1,6 @@
 -- Bytes behind a line's own.
 use Rattle.std.proofs.Common.{◌+◌, ◌-◌, ◌≡◌, length, arith}
 use Rattle.job_lines.proofs.Texts.{longer_is}
-use Rattle.job_lines.proofs.Whole.{line_whole}
 use Rattle.job_lines.proofs.text.append.Goals as goal
 
 pub returns : goal.returns
@@ -9,4 +8,4 @@ returns c =
     let l = c.args.line in
     let more = c.args.more.now in
     let count : l.len + length more - l.len ≡ length more = omega arith in
-    rw (c.copy_from_slice.ensures.after, count) (longer_is l more (omega (arith, line_whole l _ c.well_formed.0)))
+    rw (c.copy_from_slice.ensures.after, count) (longer_is l more (omega arith))
