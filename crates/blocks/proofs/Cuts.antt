@@ -1,8 +1,9 @@
 -- Children and tiles one after the other: a range halved and cut in steps, a block's children by rows, and the grid's tiles row by row.
-use Prim.Native.Nat.{ℕ, zero, suc, ◌+◌, ◌-◌, ◌≤◌, ◌<◌, min}
-use mathlib.Core.Path.{◌≡◌, refl, ap, ◌∙◌}
+use Prim.Native.Nat.{ℕ, zero, suc, ◌+◌, ◌-◌, ◌≤◌, ◌<◌, min, max}
+use mathlib.Core.Path.{◌≡◌, refl, sym, ap, ◌∙◌}
 use mathlib.Core.Bool.{false, cond}
 use mathlib.Core.List.{List, [], ◌∷◌, ◌++◌, append-nil}
+use native.Mathlib.Decide.{dec_lt}
 use native.Mathlib.Omega.{arith}
 use lib.Dec.{leb}
 use borrow.Author.Tests.{eq-eqb, ne_eqb, le-leb, lt-leb}
@@ -82,14 +83,24 @@ pub cuts_none : (n step low : ℕ) → n ≤ low → cuts n step low ≡ []
 unfolding steps
 cuts_none n step low h = let e : n - low ≡ 0 = omega arith in rw e
 
-pub cuts_more : (n step low end : ℕ) → low < n → end ≡ min (low + (step - 1)) (n - 1) → cuts n step low ≡ range low end ∷ cuts n step (end + 1)
+-- a step further: after the last one nothing is left, wherever the next would begin
+pub cuts_more : (n step low end next : ℕ) → low < n → end ≡ min (low + (step - 1)) (n - 1) → next ≡ low + max step 1
+    → cuts n step low ≡ range low end ∷ cuts n step next
 unfolding steps
-cuts_more n step low end h e =
-    let k : n - low ≡ suc (n - low - 1) = omega arith in
-    ap (λ (f : ℕ). steps f step low (n - 1)) k
-    ∙ rw (le-leb low (n - 1) (omega arith), e)
-    (ap {B = List Range} (λ r. range low (min (low + (step - 1)) (n - 1)) ∷ r)
-    (steps_fuel (n - low - 1) (n - (min (low + (step - 1)) (n - 1) + 1)) step (min (low + (step - 1)) (n - 1) + 1) n (omega arith) (omega arith) (omega arith)))
+cuts_more n step low end next h e k =
+    let m : n - low ≡ suc (n - low - 1) = omega arith in
+    ap (λ (f : ℕ). steps f step low (n - 1)) m
+    ∙ rw (le-leb low (n - 1) (omega arith), ← e) (ap {B = List Range} (λ r. range low end ∷ r) rest)
+  where
+    rest : steps (n - low - 1) step (end + 1) (n - 1) ≡ cuts n step next
+    rest = elim (dec_lt n next) [
+      | yes l ↦
+          steps_fuel (n - low - 1) (n - (end + 1)) step (end + 1) n (omega arith) (omega arith) (omega arith)
+          ∙ cuts_none n step (end + 1) (omega arith) ∙ sym (cuts_none n step next (omega arith))
+      | no l ↦
+          let same : end + 1 ≡ next = omega arith in
+          rw same (steps_fuel (n - low - 1) (n - next) step next n (omega arith) (omega arith) (omega arith))
+    ]
 
 -- ---- tiles
 
@@ -106,9 +117,10 @@ module _ (width spacing : ℕ) (rows : Range) where
   unfolding each
   row_none first h = rw (cuts_none width spacing first h)
 
-  pub row_cut : (first last : ℕ) → first < width → last ≡ min (first + (spacing - 1)) (width - 1) → row_from first ≡ block rows (range first last) ∷ row_from (last + 1)
+  pub row_cut : (first last next : ℕ) → first < width → last ≡ min (first + (spacing - 1)) (width - 1) → next ≡ first + max spacing 1
+      → row_from first ≡ block rows (range first last) ∷ row_from next
   unfolding each
-  row_cut first last h e = ap (each (block rows)) (cuts_more width spacing first last h e)
+  row_cut first last next h e k = ap (each (block rows)) (cuts_more width spacing first last next h e k)
 
 module _ (width height spacing : ℕ) where
   -- the tiles that are left, from a row on
@@ -119,10 +131,10 @@ module _ (width height spacing : ℕ) where
   unfolding cross concat_each
   tiles_none north h = rw (cuts_none height spacing north h)
 
-  pub tiles_cut : (north south : ℕ) → north < height → south ≡ min (north + (spacing - 1)) (height - 1)
-      → tiles_from north ≡ tile_row width spacing (range north south) ++ tiles_from (south + 1)
+  pub tiles_cut : (north south next : ℕ) → north < height → south ≡ min (north + (spacing - 1)) (height - 1) → next ≡ north + max spacing 1
+      → tiles_from north ≡ tile_row width spacing (range north south) ++ tiles_from next
   unfolding cross concat_each tile_row
-  tiles_cut north south h e = ap (λ (r : List Range). cross r (steps width spacing 0 (width - 1))) (cuts_more height spacing north south h e)
+  tiles_cut north south next h e k = ap (λ (r : List Range). cross r (steps width spacing 0 (width - 1))) (cuts_more height spacing north south next h e k)
 
 pub tiles_all : (g : Grid) (spacing : ℕ) → tiles_from g.width g.height spacing 0 ≡ tile g spacing
 unfolding tile

@@ -6,7 +6,7 @@ mod word;
 
 pub use cells::{area, by_probe, is_cell, middle, probe, same_shape};
 use grid::{Col, Row};
-pub use word::{from_word, to_word, words_by_probe};
+pub use word::words_by_probe;
 
 // All cells from row north to row south and from column first to column last. A block never goes across the seam, though the circles around
 // its cells do: so its columns are the numbers from first to last, there is one block only for the same cells, and the last tile of a row

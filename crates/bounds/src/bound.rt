@@ -1,6 +1,5 @@
 // The wide circle of a block: how far its cells may stand from its probe, and the radius widened by that.
-ghost use Rattle.std.specs.Prelude.{◌≡◌, [], ◌-◌, ◌≤◌};
-ghost use Rattle.lists.specs.Counted.{max};
+ghost use Rattle.std.specs.Prelude.{◌≡◌, []};
 ghost use Rattle.grid.specs.Map.{globe_of};
 ghost use Rattle.bounds.specs.Bound.{slack_margin, slack_km, widened_by, wide_km};
 ghost use Rattle.bounds.specs.State.{wide_kernel};
@@ -25,16 +24,6 @@ pub fn slack_margin() -> f64
     1.0 + 32.0 * floats::EPSILON
 }
 
-// The columns from the probe to the farther side.
-fn column_reach(block: Block, col: u32) -> u32
-    requires { (block.first.0 ≤ col) × (col ≤ block.last.0) }
-    ensures { result ≡ max (col - block.first.0) (block.last.0 - col) }
-{
-    let west = col - block.first.0;
-    let east = block.last.0 - col;
-    if west < east { east } else { west }
-}
-
 // How far a block's cells may stand from its probe, in kilometres: along the probe's parallel to a cell's column, then along the meridian to
 // its row, which is no shorter than the distance. The cosine is the probe's, since the first hop stays at its latitude.
 pub fn slack_km(grid: Grid, cosines: &[f64], block: Block) -> f64
@@ -48,8 +37,8 @@ pub fn slack_km(grid: Grid, cosines: &[f64], block: Block) -> f64
     let north = floats::abs(grid.centre_lat(block.north) - lat);
     let south = floats::abs(grid.centre_lat(block.south) - lat);
     let delta_lat = floats::greater(north, south);
-    let reach = column_reach(block, p.col.0);
-    let delta_lon = reach as f64 * floats::abs(grid.lon_step);
+    let farther = (p.col.0 - block.first.0).max(block.last.0 - p.col.0);
+    let delta_lon = farther as f64 * floats::abs(grid.lon_step);
     let hops = delta_lat * RADIAN + delta_lon * RADIAN * cosines[at];
     grid::arc_km(grid, hops) * slack_margin()
 }
@@ -76,6 +65,7 @@ pub fn wide_km(grid: Grid, cosines: &[f64], km: f64, block: Block) -> f64
 }
 
 // The kernel of a block's wide circle.
+#[tactic(auto, using(crate::proofs::Shaped::wide_sheet), unfolding(crate::specs::State::wide_kernel))]
 pub fn wide_kernel(grid: Grid, angles: &[f64], cosines: &[f64], km: f64, block: Block) -> Kernel
     requires { CanWiden grid angles.now cosines.now block }
     ensures { result ≡ wide_kernel (globe_of grid angles.now cosines.now) km block }

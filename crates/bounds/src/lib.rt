@@ -1,5 +1,5 @@
 // The bound of a block by its wide circle.
-#![tactic(auto)]
+#![tactic(auto, unfolding(crate::specs::Bound::open_bounds, grid::specs::Map::cosine_at, floats::specs::Binary::open_floats, lists::specs::Counted::max))]
 
 mod bound;
 

@@ -1,4 +1,5 @@
 -- The order of candidates: fewer people, or as many at a later cell. Of two candidates `better` is the greater.
+use Rattle.std.proofs.Common.{Option, None, Some, IfSome, IsSomeAnd}
 use Prim.Native.Nat.{ℕ, ◌≤◌, ◌<◌}
 use mathlib.Core.Path.{◌≡◌, refl, sym, ◌∙◌}
 use mathlib.Core.Logic.{◌⊎◌, inl, inr}
@@ -9,8 +10,6 @@ use borrow.Author.Tests.{ltb-true, ltb-false}
 use Rattle.lists.proofs.Bools.{of_true, is_true, not_both, cond_case}
 use Rattle.grid.specs.Grid.{before}
 use Rattle.candidates.specs.declared.Candidate.{Candidate}
-use Rattle.candidates.specs.declared.Held.{Held}
-use Rattle.candidates.specs.declared.Held.TheVariants.{Nobody, Best}
 use Rattle.candidates.specs.Candidate.{candidate_of, centre_of, better, better_held, prunes}
 use Rattle.grid.proofs.CellOrder.{before_trans, Compared, first, same, second, compare}
 
@@ -62,39 +61,34 @@ chosen c d =
 -- ---- what is held
 
 -- a candidate is at most what is held
-abbrev pub Below : Candidate → Held → Type 0
-Below k Nobody = ⊥
-Below k (Best d) = k ≼ d
+abbrev pub Below : Candidate → Option Candidate → Type 0
+Below k h = IsSomeAnd h (λ d. k ≼ d)
 
-pub better_first : (k : Candidate) (a b : Held) → Below k a → Below k (better_held a b)
+pub better_first : (k : Candidate) (a b : Option Candidate) → Below k a → Below k (better_held a b)
 unfolding better_held
-better_first k Nobody b p = absurd p
-better_first k (Best c) Nobody p = p
-better_first k (Best c) (Best d) p = ≼_trans p (chosen c d).first
+better_first k None b p = absurd p
+better_first k (Some c) None p = p
+better_first k (Some c) (Some d) p = ≼_trans p (chosen c d).first
 
-pub better_second : (k : Candidate) (a b : Held) → Below k b → Below k (better_held a b)
+pub better_second : (k : Candidate) (a b : Option Candidate) → Below k b → Below k (better_held a b)
 unfolding better_held
-better_second k Nobody b p = p
-better_second k (Best c) Nobody p = absurd p
-better_second k (Best c) (Best d) p = ≼_trans p (chosen c d).second
+better_second k None b p = p
+better_second k (Some c) None p = absurd p
+better_second k (Some c) (Some d) p = ≼_trans p (chosen c d).second
 
--- what is true of the candidate that is held, if there is one
-abbrev pub OfHeld : (Candidate → Type 0) → Held → Type 0
-OfHeld P Nobody = Unit {0}
-OfHeld P (Best c) = P c
-
-pub better_of : (P : Candidate → Type 0) (a b : Held) → OfHeld P a → OfHeld P b → OfHeld P (better_held a b)
+-- what is true of the candidate that is held, if there is one, stays
+pub better_of : (P : Candidate → Type 0) (a b : Option Candidate) → IfSome a P → IfSome b P → IfSome (better_held a b) P
 unfolding better_held
-better_of P Nobody b p q = q
-better_of P (Best c) Nobody p q = p
-better_of P (Best c) (Best d) p q = pick (chosen c d).either
+better_of P None b p q = q
+better_of P (Some c) None p q = p
+better_of P (Some c) (Some d) p q = pick (chosen c d).either
   where
     pick : (better c d ≡ c) ⊎ (better c d ≡ d) → P (better c d)
     pick (inl e) = rw e p
     pick (inr e) = rw e q
 
 -- a bound that prunes is above nobody who is not below what is held
-pub pruned_below : (bound : ℕ) (h : Held) → prunes bound h ≡ true → (k : Candidate) → k.population ≤ bound → Below k h
+pub pruned_below : (bound : ℕ) (h : Option Candidate) → prunes bound h ≡ true → (k : Candidate) → k.population ≤ bound → Below k h
 unfolding prunes
-pruned_below bound Nobody e k l = absurd (false≢true e)
-pruned_below bound (Best d) e k l = fewer (omega (arith, ltb-true bound d.population e))
+pruned_below bound None e k l = absurd (false≢true e)
+pruned_below bound (Some d) e k l = fewer (omega (arith, ltb-true bound d.population e))

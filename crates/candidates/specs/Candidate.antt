@@ -1,12 +1,10 @@
 -- Candidates: a centre with the population of its circle, and which of two is better.
-use Rattle.std.specs.Prelude.{ℕ, Bool, false, cond, ltb, Float}
+use Rattle.std.specs.Prelude.{ℕ, Bool, false, cond, ltb, Float, Option, None, Some}
 use Rattle.grid.specs.declared.Cell.{Cell}
 use Rattle.grid.specs.Grid.{cell, before}
 use Rattle.grid.specs.Map.{Map}
 use Rattle.circle_cells.specs.Circle.{population}
 use Rattle.candidates.specs.declared.Candidate.{Candidate}
-use Rattle.candidates.specs.declared.Held.{Held}
-use Rattle.candidates.specs.declared.Held.TheVariants.{Nobody, Best}
 
 -- a cell with a population
 abbrev pub candidate_of : Cell → ℕ → Candidate
@@ -32,15 +30,15 @@ better c d =
     cond (ltb c.population d.population) d least
 
 -- the better of what two hold
-unfoldable pub better_held : Held → Held → Held
-better_held Nobody h = h
-better_held (Best c) Nobody = Best c
-better_held (Best c) (Best d) = Best (better c d)
+unfoldable pub better_held : Option Candidate → Option Candidate → Option Candidate
+better_held None h = h
+better_held (Some c) None = Some c
+better_held (Some c) (Some d) = Some (better c d)
 
 -- a bound is below the held population, so its block is pruned; an equal one lives
-unfoldable pub prunes : ℕ → Held → Bool
-prunes bound Nobody = false
-prunes bound (Best c) = ltb bound c.population
+unfoldable pub prunes : ℕ → Option Candidate → Bool
+prunes bound None = false
+prunes bound (Some c) = ltb bound c.population
 
 -- opens all of the above, for facts that are computed
 unfoldable pub open_candidates : Unit {0}

@@ -2,58 +2,48 @@
 ghost use Rattle.std.specs.Prelude.{◌≡◌, ltb};
 ghost use Rattle.candidates.specs.Candidate.{centre_of, better, better_held, prunes};
 
-use crate::{Candidate, Held};
+use crate::Candidate;
 use grid::Cell;
 
 fn centre_of(c: Candidate) -> Cell
     ensures { result ≡ centre_of c }
 {
-    let row = c.row;
-    let col = c.col;
-    Cell { row, col }
+    Cell {
+        row: c.row,
+        col: c.col,
+    }
 }
 
 // More people win; of as many, the first by row, then column, so that the winner does not hang on the order in which candidates are met.
+#[tactic(auto, unfolding(crate::specs::Candidate::better, grid::specs::Grid::before))]
 pub fn better(c: Candidate, d: Candidate) -> Candidate
     ensures { result ≡ better c d }
 {
-    if c.population < d.population {
-        return d;
+    let more = c.population < d.population;
+    let tied = c.population == d.population;
+    if more || tied && centre_of(d) < centre_of(c) {
+        d
+    } else {
+        c
     }
-    if d.population < c.population {
-        return c;
-    }
-    let x = centre_of(d);
-    let y = centre_of(c);
-    if grid::before(x, y) { d } else { c }
 }
 
 // The better of what two hold, if either holds one.
-pub fn better_held(a: Held, b: Held) -> Held
+#[tactic(auto, unfolding(crate::specs::Candidate::better_held))]
+pub fn better_held(a: Option<Candidate>, b: Option<Candidate>) -> Option<Candidate>
     ensures { result ≡ better_held a b }
 {
-    match a {
-        Held::Nobody => b,
-        Held::Best(c) => match b {
-            Held::Nobody => Held::Best(c),
-            Held::Best(d) => Held::Best(better(c, d)),
-        },
+    match (a, b) {
+        (Some(c), Some(d)) => Some(better(c, d)),
+        _ => a.or(b),
     }
 }
 
-// An equal bound does not prune: a circle of its block may hold as many people and stand first.
-fn below(bound: u64, population: u64) -> bool
-    ensures { result ≡ ltb bound population }
-{
-    bound < population
-}
-
-// Whether a block of this bound holds no circle that could be the better one. Before anything is held, none is pruned.
-pub fn prunes(bound: u64, held: Held) -> bool
+// Whether a block of this bound holds no circle that could be the better one. Before anything is held, none is pruned. An equal bound
+// does not prune: a circle of its block may hold as many people and stand first.
+#[tactic(auto, unfolding(crate::specs::Candidate::prunes))]
+pub fn prunes(bound: u64, held: Option<Candidate>) -> bool
     ensures { result ≡ prunes bound held }
 {
-    match held {
-        Held::Nobody => false,
-        Held::Best(c) => below(bound, c.population),
-    }
+    held.is_some_and(|c| bound < c.population)
 }

@@ -22,19 +22,10 @@ impl Candidate {
     pub fn at(cell: Cell, population: u64) -> Candidate
         ensures { result ≡ candidate_of cell population }
     {
-        let row = cell.row;
-        let col = cell.col;
         Candidate {
-            row,
-            col,
+            row: cell.row,
+            col: cell.col,
             population,
         }
     }
-}
-
-// The best candidate so far, if there is one.
-#[derive(Clone, Copy)]
-pub enum Held {
-    Nobody,
-    Best(Candidate),
 }

@@ -1,4 +1,5 @@
 -- What a block adds to a chunk's counts, and what an evaluated one leaves.
+use Rattle.std.proofs.Common.{Option, Some}
 use Prim.Native.Nat.{ℕ, ◌+◌, ◌≤◌, ◌^◌}
 use mathlib.Core.Path.{◌≡◌}
 use mathlib.Core.Bool.{Bool, true, false}
@@ -12,8 +13,7 @@ use Rattle.blocks.specs.Block.{is_cell, probe}
 use Rattle.tally.specs.declared.Tally.{Tally}
 use Rattle.tally.specs.Counts.{stats, tally, plus}
 use Rattle.tally.specs.State.{weight, stats_weight}
-use Rattle.candidates.specs.declared.Held.{Held}
-use Rattle.candidates.specs.declared.Held.TheVariants.{Best}
+use Rattle.candidates.specs.declared.Candidate.{Candidate}
 use Rattle.candidates.specs.Candidate.{candidate_of, better_held}
 use Rattle.chunk_work.specs.declared.ChunkWork.{ChunkWork}
 use Rattle.chunk_work.specs.Work.{Work, wide_built, exact_built}
@@ -50,8 +50,8 @@ unfolding weight stats_weight
 added_light n p e k a s h₁ h₂ h₃ h₄ h₅ h₆ = omega arith
 
 -- what an evaluated block leaves, from what each step gave
-pub evaluated_is : (w : ChunkWork) (b : Block) (wide : Float) (people : ℕ) (p : Cell) (held : Held) (sum : Tally) → p ≡ probe b
-    → held ≡ better_held w.held (Best (candidate_of p people))
+pub evaluated_is : (w : ChunkWork) (b : Block) (wide : Float) (people : ℕ) (p : Cell) (held : Option Candidate) (sum : Tally) → p ≡ probe b
+    → held ≡ better_held w.held (Some (candidate_of p people))
     → sum ≡ plus w.tally (tally (stats 0 1 0 1 (wide_built (work_of w []) b wide + exact_built (work_of w []) b)) 0 (one (is_cell b)))
     → record { held = held; tally = sum; wide_row = p.row; wide_km = wide; exact_row = p.row } ≡ evaluated_work w b wide people
 unfolding evaluated_work

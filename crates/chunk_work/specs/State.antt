@@ -1,10 +1,9 @@
 -- A chunk at work as the code carries it, and after each of a block's two ways.
-use Rattle.std.specs.Prelude.{ℕ, ◌+◌, ◌%◌, Bool, List, [], eqb, Float}
+use Rattle.std.specs.Prelude.{ℕ, ◌+◌, ◌%◌, Bool, List, [], eqb, Float, Some}
 use Rattle.lists.specs.Counted.{one}
 use Rattle.blocks.specs.declared.Block.{Block}
 use Rattle.blocks.specs.Block.{area, is_cell, probe, range, block}
 use Rattle.tally.specs.Counts.{stats, tally, plus}
-use Rattle.candidates.specs.declared.Held.TheVariants.{Best}
 use Rattle.candidates.specs.Candidate.{candidate_of, better_held}
 use Rattle.chunk_work.specs.declared.ChunkWork.{ChunkWork}
 use Rattle.chunk_work.specs.Work.{Work, wide_built, exact_built}
@@ -42,7 +41,7 @@ pruned_work w b wide =
 unfoldable pub evaluated_work : ChunkWork → Block → Float → ℕ → ChunkWork
 evaluated_work w b wide population =
     record {
-      held = better_held w.held (Best (candidate_of (probe b) population));
+      held = better_held w.held (Some (candidate_of (probe b) population));
       tally = plus w.tally (tally (stats 0 1 0 1 (wide_built (work_of w []) b wide + exact_built (work_of w []) b)) 0 (one (is_cell b)));
       wide_row = (probe b).row;
       wide_km = wide;

@@ -1,16 +1,16 @@
 -- A chunk at work: what it has come to, and the kernels that it holds and counts.
-use Rattle.std.specs.Prelude.{ℕ, not, ◌&&◌, List, Float, eqb}
+use Rattle.std.specs.Prelude.{ℕ, not, ◌&&◌, List, Float, eqb, Option}
 use Rattle.std.specs.Float.Ieee.{eq}
 use Rattle.lists.specs.Counted.{one}
 use Rattle.grid.specs.declared.Row.{Row}
 use Rattle.blocks.specs.declared.Block.{Block}
 use Rattle.blocks.specs.Block.{probe}
 use Rattle.tally.specs.declared.Tally.{Tally}
-use Rattle.candidates.specs.declared.Held.{Held}
+use Rattle.candidates.specs.declared.Candidate.{Candidate}
 
 -- what a chunk, or a level, has come to
 pub record Outcome : Type 0 where
-  pub held : Held
+  pub held : Option Candidate
   pub survivors : List Block
   pub tally : Tally
 

@@ -4,13 +4,12 @@ ghost use Rattle.lists.specs.Counted.{max, div_ceil};
 
 // Four, or as many as there are blocks, and at least one. The counts hang on where a level is cut, and the original cuts it for four
 // threads whatever the machine has: so do we, though one thread goes through the chunks in turn.
+#[tactic(auto, using(std::proofs::lemmas::Bool::Decides::nat_tests), unfolding(lists::specs::Counted::max))]
 fn workers(n: usize) -> usize
-    ensures { result ≡ max 1 (min 4 n) }
+    ensures number { result ≡ max 1 (min 4 n) }
+    ensures some { 1 ≤ result }
 {
-    if n < 1 {
-        return 1;
-    }
-    if n < 4 { n } else { 4 }
+    n.clamp(1, 4)
 }
 
 // How many blocks a worker has: the last worker may have fewer.
@@ -19,7 +18,7 @@ pub fn chunk_size(n: usize) -> usize
     ensures { result ≡ div_ceil n (max 1 (min 4 n)) }
 {
     let w = workers(n);
-    (n + (w - 1)) / w
+    n.div_ceil(w)
 }
 
 // The place after a chunk: the last one may be short.
@@ -27,5 +26,5 @@ pub fn chunk_end(start: usize, size: usize, n: usize) -> usize
     requires { start ≤ n }
     ensures { result ≡ min (start + size) n }
 {
-    if size < n - start { start + size } else { n }
+    start.saturating_add(size).min(n)
 }

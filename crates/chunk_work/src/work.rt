@@ -10,30 +10,33 @@ ghost use Rattle.chunk_work.specs.Requires.{CanCount};
 
 use crate::{ChunkWork, kept};
 use blocks::Block;
-use candidates::{Candidate, Held};
+use candidates::Candidate;
 use tally::{SearchStats, Tally};
 
 // A single cell that is evaluated is settled.
+#[tactic(auto, unfolding(lists::specs::Counted::one))]
 fn settled(block: Block) -> u64
     ensures { result ≡ one (is_cell block) }
 {
-    if blocks::is_cell(block) { 1 } else { 0 }
+    u64::from(blocks::is_cell(block))
 }
 
 // Whether the block's wide kernel counts as built.
+#[tactic(auto, unfolding(lists::specs::Counted::one, crate::specs::Work::wide_built))]
 fn wide_built(work: ChunkWork, block: Block, wide: f64) -> u64
     ensures { result ≡ wide_built (work_of work []) block wide }
 {
     let row = blocks::probe(block).row;
-    kept::built(kept::same_kernel(work.wide_row, work.wide_km, row, wide))
+    u64::from(!kept::same_kernel(work.wide_row, work.wide_km, row, wide))
 }
 
 // Whether its exact one does.
+#[tactic(auto, unfolding(lists::specs::Counted::one, crate::specs::Work::exact_built))]
 fn exact_built(work: ChunkWork, block: Block) -> u64
     ensures { result ≡ exact_built (work_of work []) block }
 {
     let row = blocks::probe(block).row;
-    kept::built(kept::same_row(work.exact_row, row))
+    u64::from(work.exact_row != row)
 }
 
 // A pruned block asks for no exact kernel: the population of its probe's circle is at most its bound, which is below that of the circle
@@ -42,19 +45,15 @@ fn pruned(work: ChunkWork, block: Block, wide: f64) -> ChunkWork
     requires { CanCount work block }
     ensures { result ≡ pruned_work work block wide }
 {
-    let held = work.held;
-    let counted = work.tally;
     let stats = SearchStats::of(0, 1, 1, 0, wide_built(work, block, wide));
     let more = Tally::of(stats, blocks::area(block), 0);
-    let tally = tally::plus(counted, more);
+    let tally = tally::plus(work.tally, more);
     let wide_row = blocks::probe(block).row;
-    let exact_row = work.exact_row;
     ChunkWork {
-        held,
         tally,
         wide_row,
         wide_km: wide,
-        exact_row,
+        ..work
     }
 }
 
@@ -64,14 +63,13 @@ fn evaluated(work: ChunkWork, block: Block, wide: f64, population: u64) -> Chunk
     ensures { result ≡ evaluated_work work block wide population }
 {
     let before = work.held;
-    let counted = work.tally;
     let probe = blocks::probe(block);
     let row = probe.row;
-    let held = candidates::better_held(before, Held::Best(Candidate::at(probe, population)));
+    let held = candidates::better_held(before, Some(Candidate::at(probe, population)));
     let kernels = wide_built(work, block, wide) + exact_built(work, block);
     let stats = SearchStats::of(0, 1, 0, 1, kernels);
     let more = Tally::of(stats, 0, settled(block));
-    let tally = tally::plus(counted, more);
+    let tally = tally::plus(work.tally, more);
     ChunkWork {
         held,
         tally,
@@ -102,21 +100,12 @@ pub fn examined(
 pub fn survives(work: ChunkWork, bound: u64) -> bool
     ensures { result ≡ not (prunes bound work.held) }
 {
-    let held = work.held;
-    if candidates::prunes(bound, held) {
-        false
-    } else {
-        true
-    }
+    !candidates::prunes(bound, work.held)
 }
 
 // A survivor asks for the population of its probe's circle, but where the wide circle has the plain radius, as that of a single cell has.
 pub fn asks(survives: bool, wide: f64, km: f64) -> bool
     ensures { result ≡ (survives && not (eq wide km)) }
 {
-    if survives {
-        !kept::same_radius(wide, km)
-    } else {
-        false
-    }
+    survives && wide != km
 }

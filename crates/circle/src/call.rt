@@ -3,10 +3,10 @@ ghost use Rattle.std.specs.Prelude.{◌≡◌};
 ghost use Rattle.grid.specs.Map.{lent_map};
 ghost use Rattle.circle_rules.specs.Call.{circle_gave, circle_call};
 
-use circle_rules::{CircleAnswer, circle_asked};
-use grid::{Asked, Cell, Grid};
+use circle_rules::circle_asked;
+use grid::{Cell, Grid, Refusal};
 
-// The population of the circle of a radius around a cell, or the number of the first question answered no; a refusal writes nothing.
+// The population of the circle of a radius around a cell, or the first question answered no; a refusal writes nothing.
 pub fn circle(
     grid: Grid,
     counts: &[u32],
@@ -15,25 +15,20 @@ pub fn circle(
     sums: &mut [u64],
     km: u32,
     centre: Cell,
-) -> CircleAnswer
+) -> Result<u64, Refusal>
     ensures { circle_gave result sums.new
         ≡ circle_call (lent_map grid counts.now angles.now cosines.now) sums.old km centre }
 {
-    match circle_asked(grid, counts, angles, cosines, sums, km, centre) {
-        Asked::Refused(number) => CircleAnswer::Refused(number),
-        Asked::Radius(radius) => {
-            sums_fill::fill_sums(grid, counts, sums);
-            let kernel = kernel::build(grid, angles, centre.row, radius.0 as f64);
-            let population = kernel_sums::circle_population(
-                grid,
-                sums,
-                kernel.north,
-                kernel.end,
-                &kernel.reach,
-                &kernel.run,
-                centre.col,
-            );
-            CircleAnswer::Population(population)
-        }
-    }
+    let radius = circle_asked(grid, counts, angles, cosines, sums, km, centre)?;
+    sums_fill::fill_sums(grid, counts, sums);
+    let kernel = kernel::build(grid, angles, centre.row, radius.0 as f64);
+    Ok(kernel_sums::circle_population(
+        grid,
+        sums,
+        kernel.north,
+        kernel.end,
+        &kernel.reach,
+        &kernel.run,
+        centre.col,
+    ))
 }

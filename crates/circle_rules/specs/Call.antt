@@ -1,15 +1,15 @@
 -- The single-circle call.
-use Rattle.std.specs.Prelude.{ℕ, List, [], ◌∷◌, ◌++◌}
+use Rattle.std.specs.Prelude.{Result, ℕ, List, [], ◌∷◌, ◌++◌}
 use Rattle.floats.specs.Binary.{whole}
 use Rattle.grid.specs.declared.Cell.{Cell}
 use Rattle.grid.specs.declared.Grid.{Grid}
 use Rattle.grid.specs.Map.{Map}
 use Rattle.grid.specs.Grid.{on_grid}
-use Rattle.grid.specs.Answer.{Question, question, first_no, Answer, answered, refused, decide, after}
+use Rattle.grid.specs.declared.refusal.Refusal.{Refusal}
+use Rattle.grid.specs.Answer.{Question, question, first_no, Answer, decide, after}
+use Rattle.grid.specs.Refusal.{answer_of}
 use Rattle.grid.specs.Questions.{map_questions, radius_in_range}
 use Rattle.sums.specs.Sums.{sums_fit, filled_sums}
-use Rattle.circle_rules.specs.declared.CircleAnswer.{CircleAnswer}
-use Rattle.circle_rules.specs.declared.CircleAnswer.TheVariants as circle-answer
 use Rattle.circle_cells.specs.Circle.{population}
 
 -- the questions of the call after the map's
@@ -29,11 +29,6 @@ circle_call m sums km centre =
     let answer = decide (first_no (circle_questions m sums km centre)) (population m (whole km) centre) in
     record { answer = answer; sums = after answer (filled_sums m sums) sums }
 
--- the specification's number and value for each case of the answer
-unfoldable pub circle_answer : CircleAnswer → Answer ℕ
-circle_answer (circle-answer.Population n) = answered n
-circle_answer (circle-answer.Refused n) = refused n
-
 -- what the code's call gave: its answer, and the sums as it left them
-abbrev pub circle_gave : CircleAnswer → List ℕ → CircleOutcome
-circle_gave r sums = record { answer = circle_answer r; sums = sums }
+abbrev pub circle_gave : Result ℕ Refusal → List ℕ → CircleOutcome
+circle_gave r sums = record { answer = answer_of r; sums = sums }

@@ -3,20 +3,13 @@
 
 ghost use Rattle.std.specs.Prelude.{◌≡◌};
 ghost use Rattle.grid.specs.Map.{lent_map};
-ghost use Rattle.grid.specs.Answer.{first_no};
-ghost use Rattle.grid.specs.Questions.{asked};
+ghost use Rattle.grid.specs.Answer.{first_no, decide};
+ghost use Rattle.grid.specs.Refusal.{answer_of};
 ghost use Rattle.circle_rules.specs.Call.{circle_questions};
 
-use grid::{Asked, Cell, Grid, RadiusFound, RadiusKm};
+use grid::{Cell, Grid, RadiusKm, Refusal};
 
-// The population of a circle, or the number of the question that refused it.
-#[derive(Clone, Copy)]
-pub enum CircleAnswer {
-    Population(u64),
-    Refused(u32),
-}
-
-// What the call's questions leave: its radius, or the number of the first that is answered no. Question 8 of the radius is its constructor.
+// What the call's questions leave: its radius, or the first that is answered no. Question 8 of the radius is its constructor.
 pub fn circle_asked(
     grid: Grid,
     counts: &[u32],
@@ -25,25 +18,20 @@ pub fn circle_asked(
     sums: &[u64],
     km: u32,
     centre: Cell,
-) -> Asked
-    ensures { result ≡ asked (first_no (circle_questions
+) -> Result<RadiusKm, Refusal>
+    ensures { answer_of result ≡ decide (first_no (circle_questions
         (lent_map grid counts.now angles.now cosines.now)
-        sums.now km centre)) km }
+        sums.now km centre)) (record { 0 = km }) }
 {
-    let refusal = map_questions::map_refusal(grid, counts, angles, cosines);
-    if refusal != 0 {
-        return Asked::Refused(refusal);
-    }
+    map_questions::map_asked(grid, counts, angles, cosines)?;
     if !sums_fill::sums_fit(grid, sums) {
-        return Asked::Refused(7);
+        return Err(Refusal::Buffers);
     }
-    match RadiusKm::new(grid, km) {
-        RadiusFound::Beyond => Asked::Refused(8),
-        RadiusFound::Within(radius) => {
-            if !grid::on_grid(grid, centre) {
-                return Asked::Refused(8);
-            }
-            Asked::Radius(radius)
-        }
+    let Some(radius) = RadiusKm::new(grid, km) else {
+        return Err(Refusal::Circle);
+    };
+    if !grid::on_grid(grid, centre) {
+        return Err(Refusal::Circle);
     }
+    Ok(radius)
 }

@@ -1,4 +1,5 @@
 -- The words of a smallest radius, and what its outcome gives at the boundary by the case of its answer.
+use Rattle.std.proofs.Common.{Option, None, Some}
 use mathlib.Core.Path.{◌≡◌, refl, ap}
 use mathlib.Core.List.{List, [], ◌∷◌, ◌++◌}
 use Prim.Native.Nat.{ℕ, ◌≤◌}
@@ -9,6 +10,9 @@ use lib.ListN.{length}
 use Rattle.lists.specs.Counted.{one}
 use Rattle.lists.proofs.Bools.{byte_one}
 use Rattle.grid.specs.Map.{Map}
+use Rattle.std.specs.Prelude.{Result, Ok, Err}
+use Rattle.grid.specs.declared.refusal.Refusal.{Refusal}
+use Rattle.grid.specs.Refusal.{number, answer_of}
 use Rattle.grid.specs.Answer.{refused, decide, after, shown, first_no}
 use Rattle.grid.proofs.Answers.{decide_no, decided_yes, decided_no}
 use Rattle.spacing.specs.declared.Spacing.{Spacing}
@@ -17,14 +21,10 @@ use Rattle.ledger.specs.declared.Ledger.{Ledger}
 use Rattle.ledger.specs.Ledger.{capacity}
 use Rattle.ledger.proofs.Laws.{places_free_lem}
 use Rattle.probes.specs.declared.Ambiguity.{Ambiguity}
-use Rattle.probes.specs.declared.Ambiguity.TheVariants as ambiguity-case
-use Rattle.probes.specs.declared.ShortBelow.{ShortBelow}
-use Rattle.probes.specs.declared.ShortBelow.TheVariants as short-case
+use Rattle.probes.specs.declared.Witness.{Witness}
 use Rattle.probes.specs.declared.Smallest.{Smallest}
-use Rattle.smallest_rules.specs.declared.SmallestAnswer.{SmallestAnswer}
-use Rattle.smallest_rules.specs.declared.SmallestAnswer.TheVariants as smallest-answer
 use Rattle.probes.specs.Smallest.{smallest}
-use Rattle.smallest_rules.specs.Call.{SmallestOutcome, smallest_questions, smallest_call, smallest_answer}
+use Rattle.smallest_rules.specs.Call.{SmallestOutcome, smallest_questions, smallest_call}
 use Rattle.smallest_rules.proofs.SmallestCalls.{smallest_passed, room_left}
 use Rattle.words.specs.Words.{ledger_length, word_at, ledger_of, ledger_words}
 use Rattle.crossings.specs.Crossing.{number_of, written}
@@ -34,15 +34,15 @@ use Rattle.words.proofs.Places.{counted_fits, fits_length}
 -- ---- the words
 
 -- the witness's three words and the ambiguity's four, read one by one
-laid : (short : ShortBelow) (within : Ambiguity) (covers km row col population : ℕ) (tail : List ℕ)
+laid : (short : Option Witness) (within : Option Ambiguity) (covers km row col population : ℕ) (tail : List ℕ)
     → km ∷ row ∷ col ∷ population ∷ word_at (short_words short) 0 ∷ word_at (short_words short) 1 ∷ word_at (short_words short) 2 ∷ covers
     ∷ word_at (ambiguity_words within) 0 ∷ word_at (ambiguity_words within) 1 ∷ word_at (ambiguity_words within) 2 ∷ word_at (ambiguity_words within) 3 ∷ tail
     ≡ km ∷ row ∷ col ∷ population ∷ [] ++ short_words short ++ covers ∷ [] ++ ambiguity_words within ++ tail
 unfolding short_words ambiguity_words
-laid (short-case.Witness k n) (ambiguity-case.Radii low high radii) covers km row col population tail = refl
-laid (short-case.Witness k n) ambiguity-case.Absent covers km row col population tail = refl
-laid short-case.Absent (ambiguity-case.Radii low high radii) covers km row col population tail = refl
-laid short-case.Absent ambiguity-case.Absent covers km row col population tail = refl
+laid (Some w) (Some a) covers km row col population tail = refl
+laid (Some w) None covers km row col population tail = refl
+laid None (Some a) covers km row col population tail = refl
+laid None None covers km row col population tail = refl
 
 pub words_laid : (a : Smallest) (short within : List ℕ) → short ≡ short_words a.short_below → within ≡ ambiguity_words a.ambiguity
     → a.radius_km.0 ∷ a.centre.row.0 ∷ a.centre.col.0 ∷ a.centre.population ∷ word_at short 0 ∷ word_at short 1 ∷ word_at short 2
@@ -57,37 +57,35 @@ words_laid a short within e f =
 
 -- ---- the call
 
-module _ (m : Map) (spacing : Spacing) (share : Float) (ledger : List ℕ) (lent : Buffers) (r : SmallestAnswer) (l' : Ledger)
+module _ (m : Map) (spacing : Spacing) (share : Float) (ledger : List ℕ) (lent : Buffers) (r : Result Smallest Refusal) (l' : Ledger)
     (sums current following : List ℕ) (side : Spacing) (chosen : side ≡ spacing) (l : Ledger) (read : l ≡ ledger_of ledger) where
   abbrev SmallestGave : Type 0
   SmallestGave =
       ◌≡◌ {A = SmallestOutcome}
-      (record { answer = smallest_answer r; ledger = l'; lent = buffers sums (shown (smallest_answer r) current) (shown (smallest_answer r) following) })
+      (record { answer = answer_of r; ledger = l'; lent = buffers sums (shown (answer_of r) current) (shown (answer_of r) following) })
       (smallest_call m side share l lent)
 
-  answered_by : SmallestGave → smallest_answer r ≡ decide (first_no (smallest_questions m side share l lent)) (smallest m side share l).answer
+  answered_by : SmallestGave → answer_of r ≡ decide (first_no (smallest_questions m side share l lent)) (smallest m side share l).answer
   unfolding smallest_call
   answered_by gave = ap (λ (o : SmallestOutcome). o.answer) gave
 
-  pub smallest_fits : (a : Smallest) → SmallestGave → r ≡ smallest-answer.Found a → length ledger ≡ ledger_length
-  unfolding smallest_answer
+  pub smallest_fits : (a : Smallest) → SmallestGave → r ≡ Ok a → length ledger ≡ ledger_length
   smallest_fits a gave is =
       let none = decided_yes (first_no (smallest_questions m side share l lent)) (smallest m side share l).answer a (rw is at (answered_by gave)) in
       let free = places_free_lem l _ (room_left m side share l lent (smallest_passed m side share l lent none.0)) in
       let counted : l.len ≤ capacity = omega (arith, free) in
       fits_length ledger (counted_fits ledger (rw read at counted))
 
-  pub smallest_found : (words : List ℕ) (floats : List Float) (a : Smallest) (put w : List ℕ) (fs : List Float) → SmallestGave → r ≡ smallest-answer.Found a
+  pub smallest_found : (words : List ℕ) (floats : List Float) (a : Smallest) (put w : List ℕ) (fs : List Float) → SmallestGave → r ≡ Ok a
       → put ≡ ledger_words l' → w ≡ smallest_words a → fs ≡ smallest_floats a
       → smallest_returned 0 put w fs sums current following ≡ smallest_crossing m spacing share ledger lent words floats
-  unfolding smallest_crossing smallest_crossed smallest_answer number_of written decide shown after
+  unfolding smallest_crossing smallest_crossed number_of written decide shown after
   smallest_found words floats a put w fs gave is p e f = rw (← chosen, ← read, ← gave, is, p, e, f)
 
-  said : (n : ℕ) → SmallestGave → r ≡ smallest-answer.Refused n → decide n (tt {0}) ≡ refused n
-  unfolding smallest_answer
-  said n gave is = decide_no n n tt refl (decided_no n (first_no (smallest_questions m side share l lent)) (smallest m side share l).answer (rw is at (answered_by gave)))
+  said : (e : Refusal) → SmallestGave → r ≡ Err e → decide (number e) (tt {0}) ≡ refused (number e)
+  said e gave is = decide_no (number e) (number e) tt refl (decided_no (number e) (first_no (smallest_questions m side share l lent)) (smallest m side share l).answer (rw is at (answered_by gave)))
 
-  pub smallest_refused : (words : List ℕ) (floats : List Float) (n : ℕ) → SmallestGave → r ≡ smallest-answer.Refused n
+  pub smallest_refused : (words : List ℕ) (floats : List Float) (n : ℕ) (e : Refusal) → SmallestGave → r ≡ Err e → n ≡ number e
       → smallest_returned n ledger words floats sums current following ≡ smallest_crossing m spacing share ledger lent words floats
-  unfolding smallest_crossing smallest_crossed smallest_answer number_of written shown after
-  smallest_refused words floats n gave is = rw (said n gave is, ← chosen, ← read, ← gave, is)
+  unfolding smallest_crossing smallest_crossed number_of written shown after
+  smallest_refused words floats n e gave is told = rw (told, said e gave is, ← chosen, ← read, ← gave, is)

@@ -1,14 +1,12 @@
 -- What the smallest-radius function of the boundary gives.
-use Rattle.std.specs.Prelude.{ℕ, List, [], ◌∷◌, ◌++◌, Float}
+use Rattle.std.specs.Prelude.{ℕ, List, [], ◌∷◌, ◌++◌, Float, Option, None, Some}
 use Rattle.lists.specs.Counted.{one}
 use Rattle.grid.specs.Map.{Map}
 use Rattle.grid.specs.Answer.{after}
 use Rattle.spacing.specs.declared.Spacing.{Spacing}
 use Rattle.most_populous.specs.Call.{Buffers}
 use Rattle.probes.specs.declared.Ambiguity.{Ambiguity}
-use Rattle.probes.specs.declared.Ambiguity.TheVariants as ambiguity-case
-use Rattle.probes.specs.declared.ShortBelow.{ShortBelow}
-use Rattle.probes.specs.declared.ShortBelow.TheVariants as short-case
+use Rattle.probes.specs.declared.Witness.{Witness}
 use Rattle.probes.specs.declared.Smallest.{Smallest}
 use Rattle.smallest_rules.specs.Call.{SmallestOutcome, smallest_call}
 use Rattle.words.specs.Words.{ledger_of, ledger_words}
@@ -17,14 +15,14 @@ use Rattle.crossings.specs.Crossing.{number_of, written, buffers_left}
 -- ---- its words and floats
 
 -- 1, the kilometre and the population of the witness; three times 0 where there is none
-unfoldable pub short_words : ShortBelow → List ℕ
-short_words (short-case.Witness km population) = 1 ∷ km.0 ∷ population ∷ []
-short_words short-case.Absent = 0 ∷ 0 ∷ 0 ∷ []
+unfoldable pub short_words : Option Witness → List ℕ
+short_words (Some w) = 1 ∷ w.km.0 ∷ w.population ∷ []
+short_words None = 0 ∷ 0 ∷ 0 ∷ []
 
 -- 1, the lowest and the highest kilometre and how many radii; four times 0 where there is none
-unfoldable pub ambiguity_words : Ambiguity → List ℕ
-ambiguity_words (ambiguity-case.Radii low high radii) = 1 ∷ low.0 ∷ high.0 ∷ radii ∷ []
-ambiguity_words ambiguity-case.Absent = 0 ∷ 0 ∷ 0 ∷ 0 ∷ []
+unfoldable pub ambiguity_words : Option Ambiguity → List ℕ
+ambiguity_words (Some a) = 1 ∷ a.lowest_km.0 ∷ a.highest_km.0 ∷ a.radii ∷ []
+ambiguity_words None = 0 ∷ 0 ∷ 0 ∷ 0 ∷ []
 
 -- radius, row, column, population; the witness; whether the circle covers the grid; the ambiguity;
 -- radii evaluated and reused; levels, blocks examined, blocks pruned, circles evaluated, kernels built

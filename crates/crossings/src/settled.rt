@@ -2,28 +2,31 @@
 ghost use Rattle.std.specs.Prelude.{◌≡◌};
 ghost use Rattle.crossings.specs.Smallest.{short_words, ambiguity_words, smallest_words, smallest_floats};
 
-use probes::{Ambiguity, ShortBelow, Smallest};
+use probes::{Ambiguity, Smallest, Witness};
 
 // A flag before what may be absent: the words behind a flag of 0 are 0.
-fn short_words(below: ShortBelow) -> [u64; 3]
+#[tactic(auto, unfolding(crate::specs::Smallest::short_words))]
+fn short_words(below: Option<Witness>) -> [u64; 3]
     ensures { result ≡ short_words below }
 {
     match below {
-        ShortBelow::Witness { km, population } => [1, km.0 as u64, population],
-        ShortBelow::Absent => [0, 0, 0],
+        Some(short) => [1, short.km.0 as u64, short.population],
+        None => [0, 0, 0],
     }
 }
 
-fn ambiguity_words(ambiguity: Ambiguity) -> [u64; 4]
+#[tactic(auto, unfolding(crate::specs::Smallest::ambiguity_words))]
+fn ambiguity_words(ambiguity: Option<Ambiguity>) -> [u64; 4]
     ensures { result ≡ ambiguity_words ambiguity }
 {
     match ambiguity {
-        Ambiguity::Radii {
-            lowest_km,
-            highest_km,
-            radii,
-        } => [1, lowest_km.0 as u64, highest_km.0 as u64, radii as u64],
-        Ambiguity::Absent => [0, 0, 0, 0],
+        Some(within) => [
+            1,
+            within.lowest_km.0 as u64,
+            within.highest_km.0 as u64,
+            within.radii as u64,
+        ],
+        None => [0, 0, 0, 0],
     }
 }
 

@@ -6,6 +6,8 @@ use mathlib.Core.List.{List, [], ◌∷◌}
 use native.Mathlib.Omega.{arith}
 use lib.Dec.{T}
 use lib.ListN.{length}
+use Rattle.std.specs.Option.{is_some}
+use Rattle.std.proofs.Common.{Some, None}
 use Rattle.lists.proofs.Bools.{is_true, of_true, or_none, or_assoc}
 use Rattle.grid.specs.Grid.{ceiling}
 use Rattle.grid.specs.Map.{Map}
@@ -17,10 +19,8 @@ use Rattle.candidates.specs.declared.Candidate.{Candidate}
 use Rattle.search_rules.specs.Search.{search}
 use Rattle.most_populous.specs.Call.{buffers_fit}
 use Rattle.ledger.specs.declared.Entry.{Entry}
-use Rattle.ledger.specs.declared.Got.TheVariants.{Circle, Nothing}
 use Rattle.ledger.specs.declared.Ledger.{Ledger}
 use Rattle.ledger.specs.Ledger.{capacity, entries, find, get, rising_from, all_in_bounds, places_free}
-use Rattle.ledger.proofs.Entries.{there}
 use Rattle.ledger.proofs.Laws.{there_get, get_there, in_order, places_free_lem}
 use Rattle.climb.specs.Climb.{most_radii}
 use Rattle.share.specs.Target.{share_in_range}
@@ -62,7 +62,7 @@ pub record CallDone (m : Map) (l : Ledger) (c : Call) : Type 0 where
   pub right : CallRight m l c
   pub ledger : ListLedger m (called m l c).ledger
   pub gained : length (entries (called m l c).ledger) ≡ length (entries l) + evaluated_of (called m l c).answer
-  pub kept : (km : ℕ) → there (get (called m l c).ledger km) ≡ (there (get l km) || evaluated_at km (call_probes m l c))
+  pub kept : (km : ℕ) → is_some (get (called m l c).ledger km) ≡ (is_some (get l km) || evaluated_at km (call_probes m l c))
 
 module _ (m : Map) (a : Accepted m) (l : Ledger) (c : Call) where
   judged : ListLedger m l → (called m l c).answer ≡ decide (first_no (asked m l c)) (smallest m c.spacing c.share l).answer
@@ -90,7 +90,7 @@ module _ (m : Map) (a : Accepted m) (l : Ledger) (c : Call) where
         right = record { judged = judged s; kept = ledger_refused; right = λ x q. absurd (not_answered n x (sym e ∙ q)) };
         ledger = rw same s;
         gained = rw (same, e) (omega arith);
-        kept = λ km. rw (same, e) (or_none (there (get l km)));
+        kept = λ km. rw (same, e) (or_none (is_some (get l km)));
       }
 
   -- answered
@@ -141,7 +141,7 @@ pub record ListDone (m : Map) (l : Ledger) (cs : List Call) : Type 0 where
   pub each : EachRight m l cs
   pub ledger : ListLedger m (ledger_after m l cs)
   pub number : length (entries (ledger_after m l cs)) ≡ length (entries l) + radii_evaluated_of m l cs
-  pub kept : (km : ℕ) → there (get (ledger_after m l cs) km) ≡ (there (get l km) || evaluated_by m l cs km)
+  pub kept : (km : ℕ) → is_some (get (ledger_after m l cs) km) ≡ (is_some (get l km) || evaluated_by m l cs km)
 
 -- a fresh ledger is one of the list, with no entry
 module _ (places : List Entry) where
@@ -150,21 +150,21 @@ module _ (places : List Entry) where
   fresh_ledger_lem m =
       record { best = record { counted = refl; rising = refl; bounded = refl; best = λ km c e. absurd (never c e) }; room = omega arith }
     where
-      never : (c : Candidate) → Nothing ≡ Circle c → ⊥
+      never : (c : Candidate) → None ≡ Some c → ⊥
       never c z = let o : ◌≡◌ {A = ℕ} 0 1 = cc in omega arith
 
   fresh_none : length (entries (fresh places)) ≡ 0
   unfolding fresh entries
   fresh_none = refl
 
-  fresh_lacks : (km : ℕ) → there (get (fresh places) km) ≡ false
-  unfolding fresh entries get find there
+  fresh_lacks : (km : ℕ) → is_some (get (fresh places) km) ≡ false
+  unfolding fresh entries get find
   fresh_lacks km = refl
 
 module _ (m : Map) (a : Accepted m) (searched : SearchedBest m) where
   list_done : (l : Ledger) (cs : List Call) → ListLedger m l → ListDone m l cs
   unfolding ledger_after radii_evaluated_of evaluated_by
-  list_done l [] s = record { each = tt; ledger = s; number = omega arith; kept = λ km. or_none (there (get l km)) }
+  list_done l [] s = record { each = tt; ledger = s; number = omega arith; kept = λ km. or_none (is_some (get l km)) }
   list_done l (c ∷ cs) s =
       let first = call_done m a l c searched s in
       let rest = list_done (called m l c).ledger cs first.ledger in
@@ -172,7 +172,7 @@ module _ (m : Map) (a : Accepted m) (searched : SearchedBest m) where
         each = (first.right, rest.each);
         ledger = rest.ledger;
         number = omega (arith, first.gained, rest.number);
-        kept = λ km. rest.kept km ∙ rw (first.kept km) (or_assoc (there (get l km)) (evaluated_at km (call_probes m l c)) (evaluated_by m (called m l c).ledger cs km));
+        kept = λ km. rest.kept km ∙ rw (first.kept km) (or_assoc (is_some (get l km)) (evaluated_at km (call_probes m l c)) (evaluated_by m (called m l c).ledger cs km));
       }
 
   -- THE LIST PART OF DEMAND 3
@@ -180,7 +180,7 @@ module _ (m : Map) (a : Accepted m) (searched : SearchedBest m) where
   list_promise places cs =
       let l = fresh places in
       let done = list_done l cs (fresh_ledger_lem places m) in
-      let kept : (km : ℕ) → there (get (ledger_after m l cs) km) ≡ evaluated_by m l cs km = λ km. rw (fresh_lacks places km) at (done.kept km) in
+      let kept : (km : ℕ) → is_some (get (ledger_after m l cs) km) ≡ evaluated_by m l cs km = λ km. rw (fresh_lacks places km) at (done.kept km) in
       record {
         each = done.each;
         ledger = record {

@@ -7,6 +7,8 @@ use native.Mathlib.Omega.{arith}
 use lib.Dec.{eqb}
 use lib.ListN.{length}
 use borrow.Author.Tests.{lt-ltb, le-leb}
+use Rattle.std.specs.Option.{is_some}
+use Rattle.std.proofs.Common.{Option, Some, None}
 use Rattle.lists.specs.Counted.{one}
 use Rattle.lists.proofs.Bools.{is_true, and_both, or_none}
 use Rattle.lists.specs.Elements.{AllOf, none, also}
@@ -19,11 +21,8 @@ use Rattle.spacing.specs.declared.Spacing.{Spacing}
 use Rattle.candidates.specs.declared.Candidate.{Candidate}
 use Rattle.candidates.specs.Candidate.{centre_of}
 use Rattle.search_rules.specs.Search.{search}
-use Rattle.ledger.specs.declared.Got.{Got}
-use Rattle.ledger.specs.declared.Got.TheVariants.{Circle, Nothing}
 use Rattle.ledger.specs.declared.Ledger.{Ledger}
 use Rattle.ledger.specs.Ledger.{entry, entries, get, put, entry_in_bounds, rising_from, all_in_bounds}
-use Rattle.ledger.proofs.Entries.{there}
 use Rattle.ledger.proofs.Laws.{len_put, got_put, there_put, length_put, rising_put, in_bounds_put}
 use Rattle.probes.specs.Probes.{Probe, Run, reused_at, searched_at, probed_with, probed, how_many, evaluated_in}
 use Rattle.demand.specs.Demand3.{Accepted, BestCandidate, evaluated_at}
@@ -35,7 +34,7 @@ pub record BestLedger (m : Map) (l : Ledger) : Type 0 where
   pub counted : l.len ≡ length (entries l)
   pub rising : rising_from 0 (entries l) ≡ true
   pub bounded : all_in_bounds m.globe.grid (entries l) ≡ true
-  pub best : (km : ℕ) (c : Candidate) → get l km ≡ Circle c → BestCandidate m km c
+  pub best : (km : ℕ) (c : Candidate) → get l km ≡ Some c → BestCandidate m km c
 
 -- a best circle below the ceiling is in bounds
 best_in_bounds : (m : Map) → Accepted m → (km : ℕ) → km < ceiling m.globe.grid → (c : Candidate) → BestCandidate m km c
@@ -68,11 +67,11 @@ pub record BestRun (m : Map) (l : Ledger) (r : Run) : Type 0 where
   pub ledger : BestLedger m r.ledger
   pub probes : AllOf (BestProbe m) r.trace
   pub gained : length (entries r.ledger) ≡ length (entries l) + evaluated_in r.trace
-  pub kept : (km : ℕ) → there (get r.ledger km) ≡ (there (get l km) || evaluated_at km r.trace)
+  pub kept : (km : ℕ) → is_some (get r.ledger km) ≡ (is_some (get l km) || evaluated_at km r.trace)
 
 pub begun : (m : Map) (l : Ledger) → BestLedger m l → BestRun m l (record { trace = []; ledger = l })
 unfolding evaluated_in how_many evaluated_at
-begun m l s = record { ledger = s; probes = none; gained = omega arith; kept = λ km. or_none (there (get l km)) }
+begun m l s = record { ledger = s; probes = none; gained = omega arith; kept = λ km. or_none (is_some (get l km)) }
 
 -- the tests of a probe reused and of one evaluated, before those of the others
 reused_test : (a b c : Bool) → (a || c) ≡ (a || ((b && false) || c))
@@ -92,20 +91,20 @@ pub probed_best : (m : Map) → Accepted m → (l : Ledger) (spacing : Spacing)
 unfolding probed probed_with reused_at searched_at evaluated_in how_many one evaluated_at
 probed_best m a l spacing searched r km h s = by (get r.ledger km) refl
   where
-    by : (f : Got) → get r.ledger km ≡ f → BestRun m l (probed_with m spacing r km f)
-    by (Circle c) e =
+    by : (f : Option Candidate) → get r.ledger km ≡ f → BestRun m l (probed_with m spacing r km f)
+    by (Some c) e =
         record {
           ledger = s.ledger;
           probes = also (record { best = s.ledger.best km c e }) s.probes;
           gained = omega (arith, s.gained);
-          kept = λ k. s.kept k ∙ reused_test (there (get l k)) (eqb km k) (evaluated_at k r.trace);
+          kept = λ k. s.kept k ∙ reused_test (is_some (get l k)) (eqb km k) (evaluated_at k r.trace);
         }
-    by Nothing e =
+    by None e =
         let c = (search m spacing km).centre in
         let b = searched km h in
         record {
           ledger = put_best m a r.ledger km h c b s.ledger;
           probes = also (record { best = b }) s.probes;
           gained = omega (arith, s.gained, length_put r.ledger (entry km c) e);
-          kept = λ k. there_put r.ledger (entry km c) k ∙ rw (s.kept k) (evaluated_test (there (get l k)) (eqb km k) (evaluated_at k r.trace));
+          kept = λ k. there_put r.ledger (entry km c) k ∙ rw (s.kept k) (evaluated_test (is_some (get l k)) (eqb km k) (evaluated_at k r.trace));
         }

@@ -1,6 +1,6 @@
 -- Demand 3, as stated: on an accepted map whose sheet is fair the search names the best circle, and a list of smallest-radius calls from a
 -- fresh ledger answers and keeps the ledger as the user asks.
-use Rattle.std.specs.Prelude.{ℕ, ◌+◌, ◌-◌, ◌^◌, ◌≤◌, ◌<◌, ◌≡◌, Bool, false, not, ◌&&◌, ◌||◌, List, [], ◌∷◌, length, get_or, T, eqb, Float}
+use Rattle.std.specs.Prelude.{ℕ, ◌+◌, ◌-◌, ◌^◌, ◌≤◌, ◌<◌, ◌≡◌, Bool, false, not, ◌&&◌, ◌||◌, List, [], ◌∷◌, length, get_or, T, eqb, Float, Option, Some}
 use Rattle.std.specs.Float.Ieee.{le}
 use Rattle.floats.specs.Binary.{whole}
 use Rattle.grid.specs.declared.Cell.{Cell}
@@ -20,15 +20,13 @@ use Rattle.spacing.specs.Spacing.{spacing_given}
 use Rattle.most_populous.specs.Call.{Buffers, buffers_fit, search_call}
 use Rattle.ledger.specs.declared.Entry.{Entry}
 use Rattle.ledger.specs.declared.Ledger.{Ledger}
-use Rattle.ledger.specs.declared.Got.TheVariants.{Circle}
 use Rattle.ledger.specs.Ledger.{entries, no_entries, get, rising_from, places_free}
 use Rattle.climb.specs.Climb.{most_radii, Ended, all_short, reached_at}
 use Rattle.share.specs.Target.{share_in_range}
-use Rattle.probes.specs.declared.ShortBelow.{ShortBelow}
-use Rattle.probes.specs.declared.ShortBelow.TheVariants as short-case
+use Rattle.probes.specs.declared.Witness.{Witness}
 use Rattle.probes.specs.declared.Smallest.{Smallest}
 use Rattle.probes.specs.Probes.{Probe, Run, target_persons, smallest_run}
-use Rattle.probes.specs.Smallest.{smallest}
+use Rattle.probes.specs.Smallest.{smallest, witness}
 use Rattle.smallest_rules.specs.Call.{SmallestOutcome, smallest_call}
 
 -- ---- the map
@@ -86,10 +84,10 @@ ledger_after m l [] = l
 ledger_after m l (c ∷ cs) = ledger_after m (called m l c).ledger cs
 
 -- the short witness is a kilometre with the population of the best circle there
-pub record Witnessed (m : Map) (km : ℕ) (short : ShortBelow) : Type 0 where
+pub record Witnessed (m : Map) (km : ℕ) (short : Option Witness) : Type 0 where
   pub centre : Cell
   pub best : Best m km centre
-  pub is : short ≡ short-case.Witness (record { 0 = km }) (population m (whole km) centre)
+  pub is : short ≡ Some (witness km (population m (whole km) centre))
 
 -- an answered call, given the ledger l
 pub record AnsweredRight (m : Map) (l : Ledger) (c : Call) (a : Smallest) : Type 0 where
@@ -164,9 +162,9 @@ radii_evaluated_of m l (c ∷ cs) = evaluated_of (called m l c).answer + radii_e
 pub record LedgerRight (m : Map) (l : Ledger) (cs : List Call) : Type 0 where
   pub rising : T (rising_from 0 (entries (ledger_after m l cs)))
   pub number : length (entries (ledger_after m l cs)) ≡ radii_evaluated_of m l cs
-  pub held : (km : ℕ) → T (evaluated_by m l cs km) → (c : Candidate) × (get (ledger_after m l cs) km ≡ Circle c)
-  pub only : (km : ℕ) (c : Candidate) → get (ledger_after m l cs) km ≡ Circle c → T (evaluated_by m l cs km)
-  pub best : (km : ℕ) (c : Candidate) → get (ledger_after m l cs) km ≡ Circle c → BestCandidate m km c
+  pub held : (km : ℕ) → T (evaluated_by m l cs km) → (c : Candidate) × (get (ledger_after m l cs) km ≡ Some c)
+  pub only : (km : ℕ) (c : Candidate) → get (ledger_after m l cs) km ≡ Some c → T (evaluated_by m l cs km)
+  pub best : (km : ℕ) (c : Candidate) → get (ledger_after m l cs) km ≡ Some c → BestCandidate m km c
 
 -- a single claim about the list
 pub record ListRight (m : Map) (l : Ledger) (cs : List Call) : Type 0 where

@@ -14,5 +14,4 @@ pub mod Capped
 pub mod Finite
 pub mod Absolute
 pub mod Next
-pub mod Patterns
 pub mod Facts

@@ -1,6 +1,6 @@
 -- Laws of questions and refusals: the first "no" of a list, what a list without one says, and what an accepted map has passed.
 use Prim.Native.Nat.{ℕ, zero, suc}
-use mathlib.Core.Path.{◌≡◌, refl, sym, ◌∙◌}
+use mathlib.Core.Path.{◌≡◌, refl, sym, ap, ◌∙◌}
 use mathlib.Core.Bool.{Bool, true, false, cond, ◌&&◌}
 use mathlib.Core.List.{List, [], ◌∷◌, ◌++◌}
 use native.Mathlib.Omega.{arith}
@@ -8,8 +8,9 @@ use lib.Dec.{ltb, eqb}
 use borrow.Author.Tests.{ltb-true}
 use Rattle.lists.proofs.Bools.{and_left, and_right}
 use Rattle.grid.specs.declared.Grid.{Grid}
+use Rattle.grid.specs.declared.RadiusKm.{RadiusKm}
 use Rattle.grid.specs.Map.{Map}
-use Rattle.grid.specs.Answer.{Question, question, first_no, answered, refused, decide}
+use Rattle.grid.specs.Answer.{Question, question, first_no, Answer, answered, refused, decide}
 use Rattle.grid.specs.Questions.{sizes_in_range, latitudes_in_range, columns_close, counts_complete, sheet_complete, sheet_in_order, grid_questions, sheet_questions, map_questions}
 
 -- ---- question by question: a "yes" leaves the rest to decide, a "no" gives its number, and where nothing is left there is no refusal
@@ -190,3 +191,56 @@ module _ {A : Type 0} where
   unfolding decide
   decided_no n zero a e z = not_answered n a e
   decided_no n (suc k) a e z = let is : n ≡ suc k = cc in omega (arith, is, z)
+
+-- ---- what is decided by a list of questions: one after another
+
+module _ {A : Type 0} (a : A) where
+  pub says_no : (k : ℕ) {b : Bool} (qs : List Question) → b ≡ false → refused (suc k) ≡ decide (first_no (question (suc k) b ∷ qs)) a
+  unfolding first_no decide
+  says_no k qs e = rw e
+
+  pub says_yes : (k : ℕ) {b : Bool} (qs : List Question) {x : Answer A} → b ≡ true → x ≡ decide (first_no qs) a → x ≡ decide (first_no (question k b ∷ qs)) a
+  unfolding first_no
+  says_yes k qs e h = rw e h
+
+  pub says_all : {x : A} → x ≡ a → answered x ≡ decide (first_no []) a
+  unfolding first_no decide
+  says_all e = rw e
+
+-- and one list after another
+
+module _ {A : Type 0} (ps qs : List Question) (a : A) where
+  -- a refusal by the first stands
+  pub refused_stands : {n : ℕ} → refused n ≡ decide (first_no ps) (tt {0}) → refused n ≡ decide (first_no (ps ++ qs)) a
+  unfolding decide
+  refused_stands {n} e = go (first_no ps) refl e
+    where
+      go : (k : ℕ) → first_no ps ≡ k → refused n ≡ decide k (tt {0}) → refused n ≡ decide (first_no (ps ++ qs)) a
+      go zero z e = absurd (not_answered n (tt {0}) e)
+      go (suc k) z e = let is : n ≡ suc k = cc in rw (refused_first ps qs k z, is)
+
+  -- where the first refuses nothing the second decides
+  accepted_then : {u : Unit {0}} {x : Answer A} → numbered ps ≡ true → answered u ≡ decide (first_no ps) (tt {0})
+      → x ≡ decide (first_no qs) a → x ≡ decide (first_no (ps ++ qs)) a
+  accepted_then {u} h e d = rw (← asked_after ps qs h (decided_yes (first_no ps) tt u e).0 refl) d
+
+module _ {A : Type 0} (own : List Question) (a : A) {u : Unit {0}} {x : Answer A} where
+  -- past the grid's questions, and past the map's
+  pub past_grid : (g : Grid) → answered u ≡ decide (first_no (grid_questions g)) (tt {0})
+      → x ≡ decide (first_no own) a → x ≡ decide (first_no (grid_questions g ++ own)) a
+  unfolding grid_questions
+  past_grid g = accepted_then (grid_questions g) own a refl
+
+  pub past_map : (m : Map) → answered u ≡ decide (first_no (map_questions m)) (tt {0})
+      → x ≡ decide (first_no own) a → x ≡ decide (first_no (map_questions m ++ own)) a
+  unfolding map_questions grid_questions sheet_questions
+  past_map m = accepted_then (map_questions m) own a refl
+
+-- a decision by the same number: refused whatever it would answer, and what it answers where it is not
+pub refused_alike : {A B : Type 0} (n k : ℕ) (a : A) (b : B) → refused n ≡ decide k a → decide k b ≡ refused n
+unfolding decide
+refused_alike n zero a b e = absurd (not_answered n a e)
+refused_alike n (suc k) a b e = let is : n ≡ suc k = cc in rw is
+
+pub radius_left : (n km : ℕ) (r : RadiusKm) → answered r ≡ decide n (record { 0 = km }) → (n ≡ 0) × (km ≡ r.0)
+radius_left n km r e = let said = decided_yes n (record { 0 = km }) r e in (said.0, ap (λ (x : RadiusKm). x.0) said.1)

@@ -1,15 +1,11 @@
 -- The grid: its cells, their places and the distances on it.
-use Rattle.std.specs.Prelude.{ℕ, ◌+◌, ◌-◌, ◌*◌, ◌/◌, min, Bool, cond, ◌&&◌, ◌||◌, Float, leb, ltb, eqb}
+use Rattle.std.specs.Prelude.{Option, Some, None, ℕ, ◌+◌, ◌-◌, ◌*◌, ◌/◌, min, Bool, cond, ◌&&◌, ◌||◌, Float, leb, ltb, eqb}
 use Rattle.floats.specs.Binary.{whole, lesser, ◌⊕◌, ◌⊗◌, ◌⊘◌}
 use Rattle.grid.specs.declared.Row.{Row}
+use Rattle.grid.specs.declared.Col.{Col}
+use Rattle.grid.specs.declared.RadiusKm.{RadiusKm}
 use Rattle.grid.specs.declared.Cell.{Cell}
 use Rattle.grid.specs.declared.Grid.{Grid}
-use Rattle.grid.specs.declared.RowFound.{RowFound}
-use Rattle.grid.specs.declared.RowFound.TheVariants as row-found
-use Rattle.grid.specs.declared.ColFound.{ColFound}
-use Rattle.grid.specs.declared.ColFound.TheVariants as col-found
-use Rattle.grid.specs.declared.RadiusFound.{RadiusFound}
-use Rattle.grid.specs.declared.RadiusFound.TheVariants as radius-found
 use Rattle.grid.specs.Numbers.{earth, earth_ceiling, π, ½}
 
 -- ---- the body: what every angle, arc and limit reads of the planet
@@ -56,14 +52,14 @@ unfoldable pub before : Cell → Cell → Bool
 before x y = ltb x.row.0 y.row.0 || (eqb x.row.0 y.row.0 && ltb x.col.0 y.col.0)
 
 -- the row and the column of a number, and the radius of a number of kilometres
-unfoldable pub row_found : Grid → ℕ → RowFound
-row_found g i = cond (ltb i g.height) (row-found.On (record { 0 = i })) row-found.Off
+unfoldable pub row_found : Grid → ℕ → Option Row
+row_found g i = cond (ltb i g.height) (Some (record { 0 = i })) None
 
-unfoldable pub col_found : Grid → ℕ → ColFound
-col_found g i = cond (ltb i g.width) (col-found.On (record { 0 = i })) col-found.Off
+unfoldable pub col_found : Grid → ℕ → Option Col
+col_found g i = cond (ltb i g.width) (Some (record { 0 = i })) None
 
-unfoldable pub radius_found : Grid → ℕ → RadiusFound
-radius_found g km = cond (leb km (ceiling g)) (radius-found.Within (record { 0 = km })) radius-found.Beyond
+unfoldable pub radius_found : Grid → ℕ → Option RadiusKm
+radius_found g km = cond (leb km (ceiling g)) (Some (record { 0 = km })) None
 
 -- ---- places and distances
 

@@ -1,11 +1,9 @@
 -- Questions 1 to 6, the ones that a map is asked, and question 8 of a radius.
-use Rattle.std.specs.Prelude.{ℕ, zero, suc, ◌+◌, ◌-◌, Bool, cond, ◌&&◌, not, List, [], ◌∷◌, ◌++◌, Float, leb, ltb, eqb, length}
+use Rattle.std.specs.Prelude.{ℕ, ◌+◌, ◌-◌, Bool, cond, ◌&&◌, not, List, [], ◌∷◌, ◌++◌, Float, leb, ltb, eqb, length}
 use Rattle.std.specs.Float.Ieee.{le, lt, eq}
 use Rattle.lists.specs.Counted.{all_below}
 use Rattle.floats.specs.Binary.{whole, ◌⊕◌, ◌⊗◌, ◌⊖◌, finite, absolute}
 use Rattle.grid.specs.declared.Grid.{Grid}
-use Rattle.grid.specs.declared.Asked.{Asked}
-use Rattle.grid.specs.declared.Asked.TheVariants.{Radius, Refused}
 use Rattle.grid.specs.Numbers.{π, nano}
 use Rattle.grid.specs.Grid.{most_columns, most_rows, cells, closing, angle_count, ceiling}
 use Rattle.grid.specs.Map.{Globe, Map, angle_at, cosine_at}
@@ -111,12 +109,7 @@ map_questions m = grid_questions m.globe.grid ++ question 4 (counts_complete m) 
 unfoldable pub radius_in_range : Grid → ℕ → Bool
 radius_in_range g km = leb km (ceiling g)
 
--- what the first "no" of a call leaves: the radius where there is none, otherwise its number
-unfoldable pub asked : ℕ → ℕ → Asked
-asked zero km = Radius (record { 0 = km })
-asked (suc n) km = Refused (suc n)
-
 -- opens all of the above, for facts that are computed
 unfoldable pub open_questions : Unit {0}
-unfolding sizes_in_range latitude_in_range latitudes_in_range columns_close grid_questions counts_complete sheet_complete every_row every_pair cosine_in_range cosines_in_range angle_in_range angles_in_range own_angle_zero angle_rises angles_rise row_rises rows_rise sheet_in_order sheet_questions map_questions radius_in_range asked
+unfolding sizes_in_range latitude_in_range latitudes_in_range columns_close grid_questions counts_complete sheet_complete every_row every_pair cosine_in_range cosines_in_range angle_in_range angles_in_range own_angle_zero angle_rises angles_rise row_rises rows_rise sheet_in_order sheet_questions map_questions radius_in_range
 open_questions = tt

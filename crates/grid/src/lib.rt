@@ -2,6 +2,7 @@
 #![tactic(auto)]
 
 mod places;
+mod refusal;
 
 ghost use Rattle.std.specs.Prelude.{◌≡◌};
 ghost use Rattle.grid.specs.Grid.{row_found, col_found, radius_found, centre_lat};
@@ -9,6 +10,7 @@ ghost use Rattle.grid.specs.Grid.{row_found, col_found, radius_found, centre_lat
 pub use places::{
     HALF_TURN, angle_of, arc_km, before, body_radius, ceiling, cells, closing, on_grid, sheet_index,
 };
+pub use refusal::Refusal;
 
 // The most columns and the most rows that question 1 admits.
 pub const MOST_COLUMNS: u32 = 180;
@@ -42,32 +44,6 @@ pub struct Grid {
     pub lat_step: f64,
 }
 
-// The row, the column and the radius of a number, where there is one.
-#[derive(Clone, Copy)]
-pub enum RowFound {
-    On(Row),
-    Off,
-}
-
-#[derive(Clone, Copy)]
-pub enum ColFound {
-    On(Col),
-    Off,
-}
-
-#[derive(Clone, Copy)]
-pub enum RadiusFound {
-    Within(RadiusKm),
-    Beyond,
-}
-
-// What the questions of a call leave: the radius that it goes on with, or the number of the first question that is answered no.
-#[derive(Clone, Copy)]
-pub enum Asked {
-    Radius(RadiusKm),
-    Refused(u32),
-}
-
 impl RadiusKm {
     // The IUGG mean radius. Other crates read it by `body_radius`, of a grid.
     pub const EARTH_RADIUS_KM: f64 = 6371.0088;
@@ -76,41 +52,45 @@ impl RadiusKm {
     pub const CEILING: u32 = 20016;
 
     // No radius beyond the grid's ceiling is made: it would give the same circle.
-    pub fn new(grid: Grid, km: u32) -> RadiusFound
+    #[tactic(auto, unfolding(crate::specs::Grid::radius_found))]
+    pub fn new(grid: Grid, km: u32) -> Option<RadiusKm>
         ensures { result ≡ radius_found grid km }
     {
         if km <= crate::ceiling(grid) {
-            RadiusFound::Within(RadiusKm(km))
+            Some(RadiusKm(km))
         } else {
-            RadiusFound::Beyond
+            None
         }
     }
 }
 
 impl Grid {
     // The row of a number, where the grid has it.
-    pub fn row(self, index: u32) -> RowFound
+    #[tactic(auto, unfolding(crate::specs::Grid::row_found))]
+    pub fn row(self, index: u32) -> Option<Row>
         ensures { result ≡ row_found self index }
     {
         if index < self.height {
-            RowFound::On(Row(index))
+            Some(Row(index))
         } else {
-            RowFound::Off
+            None
         }
     }
 
     // The column of a number, where the grid has it.
-    pub fn col(self, index: u32) -> ColFound
+    #[tactic(auto, unfolding(crate::specs::Grid::col_found))]
+    pub fn col(self, index: u32) -> Option<Col>
         ensures { result ≡ col_found self index }
     {
         if index < self.width {
-            ColFound::On(Col(index))
+            Some(Col(index))
         } else {
-            ColFound::Off
+            None
         }
     }
 
     // The latitude of the row's centre, which all its cells share: distances are between the centres of cells.
+    #[tactic(auto, unfolding(crate::specs::Grid::centre_lat))]
     pub fn centre_lat(self, row: Row) -> f64
         ensures { result ≡ centre_lat self row }
     {

@@ -4,12 +4,13 @@ ghost use Rattle.grid.specs.Grid.{body_radius, ceiling, angle_of, arc_km, on_gri
 ghost use Rattle.grid.specs.Map.{sheet_index};
 ghost use Rattle.grid.specs.Requires.{InSheet};
 
-use crate::{Cell, ColFound, Grid, RadiusKm, Row, RowFound};
+use crate::{Cell, Grid, RadiusKm, Row};
 
 // Half a turn in radians.
 pub const HALF_TURN: f64 = 3.141592653589793;
 
 // The radius of the body in kilometres: the Earth's on every grid.
+#[tactic(auto, unfolding(crate::specs::Grid::body_radius))]
 pub fn body_radius(grid: Grid) -> f64
     ensures { result ≡ body_radius grid }
 {
@@ -17,6 +18,7 @@ pub fn body_radius(grid: Grid) -> f64
 }
 
 // The first whole kilometre at which every circle is the whole grid.
+#[tactic(auto, unfolding(crate::specs::Grid::ceiling))]
 pub fn ceiling(grid: Grid) -> u32
     ensures { result ≡ ceiling grid }
 {
@@ -24,6 +26,7 @@ pub fn ceiling(grid: Grid) -> u32
 }
 
 // The angle of a radius: at most half a turn, since nothing lies further away.
+#[tactic(auto, unfolding(crate::specs::Grid::angle_of))]
 pub fn angle_of(grid: Grid, km: f64) -> f64
     ensures { result ≡ angle_of grid km }
 {
@@ -31,6 +34,7 @@ pub fn angle_of(grid: Grid, km: f64) -> f64
 }
 
 // The length in kilometres of an arc of that angle.
+#[tactic(auto, unfolding(crate::specs::Grid::arc_km))]
 pub fn arc_km(grid: Grid, angle: f64) -> f64
     ensures { result ≡ arc_km grid angle }
 {
@@ -38,21 +42,15 @@ pub fn arc_km(grid: Grid, angle: f64) -> f64
 }
 
 // Whether the grid has that row and that column.
+#[tactic(auto, unfolding(crate::specs::Grid::on_grid, crate::specs::Grid::row_found, crate::specs::Grid::col_found))]
 pub fn on_grid(grid: Grid, cell: Cell) -> bool
     ensures { result ≡ on_grid grid cell }
 {
-    let row = grid.row(cell.row.0);
-    let col = grid.col(cell.col.0);
-    match row {
-        RowFound::Off => false,
-        RowFound::On(_) => match col {
-            ColFound::Off => false,
-            ColFound::On(_) => true,
-        },
-    }
+    grid.row(cell.row.0).is_some() && grid.col(cell.col.0).is_some()
 }
 
 // How many cells the grid has.
+#[tactic(auto, unfolding(crate::specs::Grid::cells))]
 pub fn cells(grid: Grid) -> u64
     ensures { result ≡ cells grid }
 {
@@ -60,6 +58,7 @@ pub fn cells(grid: Grid) -> u64
 }
 
 // Whether x stands before y by row, then column: of cells alike in everything else the first is taken.
+#[tactic(auto, unfolding(crate::specs::Grid::before))]
 pub fn before(x: Cell, y: Cell) -> bool
     ensures { result ≡ before x y }
 {
@@ -67,6 +66,7 @@ pub fn before(x: Cell, y: Cell) -> bool
 }
 
 // The largest column distance around the ring: from there on columns come nearer on the other side.
+#[tactic(auto, unfolding(crate::specs::Grid::closing))]
 pub fn closing(grid: Grid) -> u32
     ensures { result ≡ closing grid }
 {
@@ -74,6 +74,7 @@ pub fn closing(grid: Grid) -> u32
 }
 
 // The place in the sheet of the angle from a centre row to a row at a column distance.
+#[tactic(auto, unfolding(crate::specs::Map::sheet_index, crate::specs::Grid::closing))]
 pub fn sheet_index(grid: Grid, centre: Row, row: Row, offset: u32) -> usize
     requires { InSheet grid centre row offset }
     ensures { result ≡ sheet_index grid centre row offset }

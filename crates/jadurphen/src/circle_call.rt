@@ -5,7 +5,6 @@ ghost use Rattle.grid.specs.Map.{lent_map};
 ghost use Rattle.crossings.specs.Crossing.{grid_from};
 ghost use Rattle.crossings.specs.Calls.{circle_returned, circle_crossing};
 
-use circle_rules::CircleAnswer;
 use grid::{Cell, Col, Grid, Row};
 
 // Exported to C by crates/jadurphen_c: the population of a circle.
@@ -40,12 +39,11 @@ pub fn jadurphen_circle(
         row: Row(row),
         col: Col(col),
     };
-    let answer = circle::circle(grid, counts, angles, cosines, sums, km, centre);
-    match answer {
-        CircleAnswer::Population(n) => {
-            *population = n;
+    match circle::circle(grid, counts, angles, cosines, sums, km, centre) {
+        Ok(people) => {
+            *population = people;
             0
         }
-        CircleAnswer::Refused(n) => n,
+        Err(refusal) => refusal.number(),
     }
 }

@@ -9,7 +9,6 @@ ghost use Rattle.crossings.specs.Calls.{put_returned, put_crossing};
 use candidates::Candidate;
 use grid::{Cell, Col, Grid, RadiusKm, Row};
 use ledger::Entry;
-use put::PutAnswer;
 
 // Exported to C by crates/jadurphen_c: an entry put into the ledger.
 pub fn jadurphen_put(
@@ -47,10 +46,10 @@ pub fn jadurphen_put(
     let result = put::put_entry(grid, before, Entry { km, centre });
     let answer = result.answer;
     match answer {
-        PutAnswer::Done => {
+        Ok(()) => {
             words::write_ledger(result.ledger, ledger);
             0
         }
-        PutAnswer::Refused(n) => n,
+        Err(refusal) => refusal.number(),
     }
 }

@@ -6,7 +6,6 @@ ghost use Rattle.crossings.specs.Crossing.{grid_from, spacing_from};
 ghost use Rattle.crossings.specs.Calls.{search_returned, search_crossing};
 
 use grid::Grid;
-use most_populous::SearchAnswer;
 use spacing::Spacing;
 
 // Exported to C by crates/jadurphen_c: the most populous circle of a radius, as words, and the tolerance in persons.
@@ -46,11 +45,11 @@ pub fn jadurphen_search(
         grid, counts, angles, cosines, km, side, sums, current, following,
     );
     match answer {
-        SearchAnswer::Found(found) => {
+        Ok(found) => {
             *words = crossings::search_words(found);
             *tolerance = found.tolerance_persons;
             0
         }
-        SearchAnswer::Refused(n) => n,
+        Err(refusal) => refusal.number(),
     }
 }

@@ -6,7 +6,6 @@ ghost use Rattle.crossings.specs.Crossing.{grid_from, spacing_from};
 ghost use Rattle.crossings.specs.Smallest.{smallest_returned, smallest_crossing};
 
 use grid::Grid;
-use smallest_rules::SmallestAnswer;
 
 // Exported to C by crates/jadurphen_c: the smallest whole-kilometre radius whose best circle holds the share, as words and
 // floats, and the ledger after it.
@@ -51,12 +50,12 @@ pub fn jadurphen_smallest(
     );
     let answer = result.answer;
     match answer {
-        SmallestAnswer::Found(found) => {
+        Ok(found) => {
             words::write_ledger(result.ledger, ledger);
             *words = crossings::smallest_words(found);
             *floats = crossings::smallest_floats(found);
             0
         }
-        SmallestAnswer::Refused(n) => n,
+        Err(refusal) => refusal.number(),
     }
 }

@@ -1,12 +1,12 @@
 -- How many bytes fields and lines have.
+use Rattle.std.proofs.Common.{Option, None, Some}
 use Prim.Native.Nat.{ℕ, ◌+◌, ◌*◌, ◌≤◌}
 use mathlib.Core.Path.{◌≡◌}
 use mathlib.Core.List.{List, [], ◌∷◌, ◌++◌}
 use native.Mathlib.Omega.{arith}
 use lib.ListN.{length, length-append}
 use Rattle.search_rules.specs.declared.MostPopulous.{MostPopulous}
-use Rattle.probes.specs.declared.ShortBelow.{ShortBelow}
-use Rattle.probes.specs.declared.ShortBelow.TheVariants as short-case
+use Rattle.probes.specs.declared.Witness.{Witness}
 use Rattle.probes.specs.declared.Smallest.{Smallest}
 use Rattle.job_lines.specs.Line.{field, fields, most_word, least_word, refused_word, newline, most_fields, short_fields, refused_line, most_line, least_line, longest_field, longest_line}
 use Rattle.job_lines.proofs.Decimals.{length_field}
@@ -27,10 +27,10 @@ pub length_most : (f : MostPopulous) → length (most_line f) ≤ longest_line
 unfolding most_line most_fields
 length_most f = omega (arith, length_three most_word (fields (most_fields f)) newline, length_fields (most_fields f))
 
-pub length_short : (b : ShortBelow) → length (short_fields b) ≤ 2 * longest_field
+pub length_short : (b : Option Witness) → length (short_fields b) ≤ 2 * longest_field
 unfolding short_fields
-length_short short-case.Absent = omega arith
-length_short (short-case.Witness km population) = length_fields (km.0 ∷ population ∷ [])
+length_short None = omega arith
+length_short (Some w) = length_fields (w.km.0 ∷ w.population ∷ [])
 
 pub length_least : (a : Smallest) → length (least_line a) ≤ longest_line
 unfolding least_line

@@ -1,8 +1,7 @@
 -- The lines that a job prints, as bytes.
-use Rattle.std.specs.Prelude.{ℕ, zero, suc, ◌+◌, ◌*◌, ◌/◌, ◌%◌, cond, List, [], ◌∷◌, ◌++◌, ltb}
+use Rattle.std.specs.Prelude.{ℕ, zero, suc, ◌+◌, ◌*◌, ◌/◌, ◌%◌, cond, List, [], ◌∷◌, ◌++◌, ltb, Option, None, Some}
 use Rattle.search_rules.specs.declared.MostPopulous.{MostPopulous}
-use Rattle.probes.specs.declared.ShortBelow.{ShortBelow}
-use Rattle.probes.specs.declared.ShortBelow.TheVariants as short-case
+use Rattle.probes.specs.declared.Witness.{Witness}
 use Rattle.probes.specs.declared.Smallest.{Smallest}
 
 -- ---- numbers
@@ -68,9 +67,9 @@ unfoldable pub most_line : MostPopulous → List ℕ
 most_line f = most_word ++ fields (most_fields f) ++ newline
 
 -- kilometre and population of the short witness, or two times `-` where there is none
-unfoldable pub short_fields : ShortBelow → List ℕ
-short_fields short-case.Absent = 32 ∷ 45 ∷ 32 ∷ 45 ∷ []
-short_fields (short-case.Witness km population) = fields (km.0 ∷ population ∷ [])
+unfoldable pub short_fields : Option Witness → List ℕ
+short_fields None = 32 ∷ 45 ∷ 32 ∷ 45 ∷ []
+short_fields (Some w) = fields (w.km.0 ∷ w.population ∷ [])
 
 -- km, row, column, population, short km, short population, evaluated, reused
 unfoldable pub least_line : Smallest → List ℕ

@@ -4,7 +4,7 @@ ghost use Rattle.job_lines.specs.Line.{longest_field, field, fields, newline, sh
 ghost use Rattle.job_lines.specs.State.{line_room, line_of, longer};
 
 use crate::{Line, decimal};
-use probes::{ShortBelow, Smallest};
+use probes::{Smallest, Witness};
 use search_rules::MostPopulous;
 
 // A line of no bytes: none.
@@ -99,13 +99,13 @@ pub fn most_line(found: MostPopulous) -> Line
 
 // The witness's kilometre and population, or a dash for each: a number would say that there is a witness.
 #[tactic(auto, unfolding(crate::specs::Line::short_fields))]
-fn add_short(line: Line, short: ShortBelow) -> Line
+fn add_short(line: Line, short: Option<Witness>) -> Line
     requires { line.len + 2 * longest_field ≤ line_room }
     ensures { result ≡ longer line (short_fields short) }
 {
     match short {
-        ShortBelow::Witness { km, population } => add_fields(line, &[km.0 as u64, population]),
-        ShortBelow::Absent => append(line, b" - -"),
+        Some(short) => add_fields(line, &[short.km.0 as u64, short.population]),
+        None => append(line, b" - -"),
     }
 }
 

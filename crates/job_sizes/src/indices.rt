@@ -3,7 +3,7 @@ ghost use Rattle.std.specs.Prelude.{◌≡◌};
 ghost use Rattle.job_sizes.specs.Sizes.{size_taken, cell_found, angle_found};
 
 use crate::{AngleIndices, COLUMNS, ROWS};
-use grid::{Cell, ColFound, Grid, Row, RowFound};
+use grid::{Cell, Grid, Row};
 
 // Whether a job takes the grid.
 #[tactic(auto, unfolding(crate::specs::Sizes::size_taken))]
@@ -18,15 +18,9 @@ pub fn size_taken(grid: Grid) -> bool
 pub fn cell_on(grid: Grid, cell: Cell) -> Option<Cell>
     ensures { result ≡ cell_found grid cell }
 {
-    let found_row = grid.row(cell.row.0);
-    let found_col = grid.col(cell.col.0);
-    match found_row {
-        RowFound::Off => None,
-        RowFound::On(row) => match found_col {
-            ColFound::Off => None,
-            ColFound::On(col) => Some(Cell { row, col }),
-        },
-    }
+    let row = grid.row(cell.row.0)?;
+    let col = grid.col(cell.col.0)?;
+    Some(Cell { row, col })
 }
 
 // An A's rows, by those that the grid has, and its offset, where that is at most closing.
@@ -34,22 +28,14 @@ pub fn cell_on(grid: Grid, cell: Cell) -> Option<Cell>
 pub fn angle_on(grid: Grid, centre: Row, row: Row, offset: u32) -> Option<AngleIndices>
     ensures { result ≡ angle_found grid centre row offset }
 {
-    let found_centre = grid.row(centre.0);
-    let found_row = grid.row(row.0);
-    match found_centre {
-        RowFound::Off => None,
-        RowFound::On(from) => match found_row {
-            RowFound::Off => None,
-            RowFound::On(to) => {
-                if grid::closing(grid) < offset {
-                    return None;
-                }
-                Some(AngleIndices {
-                    centre: from,
-                    row: to,
-                    offset,
-                })
-            }
-        },
+    let centre = grid.row(centre.0)?;
+    let row = grid.row(row.0)?;
+    if grid::closing(grid) < offset {
+        return None;
     }
+    Some(AngleIndices {
+        centre,
+        row,
+        offset,
+    })
 }

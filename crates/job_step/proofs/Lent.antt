@@ -6,14 +6,14 @@ use Rattle.grid.specs.Map.{Map}
 use Rattle.spacing.specs.declared.Spacing.{Spacing}
 use Rattle.spacing.specs.declared.Spacing.TheVariants.{Cells}
 use Rattle.search_rules.specs.declared.MostPopulous.{MostPopulous}
-use Rattle.most_populous.specs.declared.SearchAnswer.{SearchAnswer}
-use Rattle.most_populous.specs.declared.SearchAnswer.TheVariants as search-answer
-use Rattle.most_populous.specs.Call.{Buffers, SearchOutcome, search_answer, search_call}
+use Rattle.std.specs.Prelude.{Result, Ok, Err}
+use Rattle.grid.specs.declared.refusal.Refusal.{Refusal}
+use Rattle.grid.specs.Refusal.{number, answer_of}
+use Rattle.most_populous.specs.Call.{Buffers, SearchOutcome, search_call}
 use Rattle.ledger.specs.declared.Ledger.{Ledger}
 use Rattle.probes.specs.declared.Smallest.{Smallest}
-use Rattle.smallest_rules.specs.declared.SmallestAnswer.TheVariants as smallest-answer
 use Rattle.smallest_rules.specs.declared.SmallestResult.{SmallestResult}
-use Rattle.smallest_rules.specs.Call.{SmallestOutcome, smallest_call, smallest_answer}
+use Rattle.smallest_rules.specs.Call.{SmallestOutcome, smallest_call}
 use Rattle.job_commands.specs.declared.Command.TheVariants.{Most, Least}
 use Rattle.job_lines.specs.declared.Line.{Line}
 use Rattle.job_lines.specs.Line.{most_line, least_line}
@@ -33,14 +33,14 @@ spacing_cells (suc n) h = refl
 
 -- ---- M
 
-module _ (s : JobState) (spacing km : ℕ) {r : SearchAnswer} (is : search_answer r ≡ (search_call (job_map s) (job_spacing spacing) km job_buffers).answer) where
-  pub most_found : {f : MostPopulous} {line : Line} → r ≡ search-answer.Found f → line ≡ line_of (most_line f) → gone_on s line ≡ later_in s (Most spacing km)
-  unfolding in_world world_of most_done search_answer command_state
+module _ (s : JobState) (spacing km : ℕ) {r : Result MostPopulous Refusal} (is : answer_of r ≡ (search_call (job_map s) (job_spacing spacing) km job_buffers).answer) where
+  pub most_found : {f : MostPopulous} {line : Line} → r ≡ Ok f → line ≡ line_of (most_line f) → gone_on s line ≡ later_in s (Most spacing km)
+  unfolding in_world world_of most_done command_state
   most_found {f} e q = gone_on_lem s (Most spacing km) (world_of s) (most_line f) (rw (sym is, e)) refl q
 
-  pub most_refused : {n : ℕ} → r ≡ search-answer.Refused n → refused_in s n ≡ later_in s (Most spacing km)
-  unfolding in_world world_of most_done search_answer
-  most_refused {n} e = refused_by s (Most spacing km) n (rw (sym is, e))
+  pub most_refused : {e : Refusal} → r ≡ Err e → refused_in s (number e) ≡ later_in s (Most spacing km)
+  unfolding in_world world_of most_done
+  most_refused {e} h = refused_by s (Most spacing km) (number e) (rw (sym is, h))
 
 pub search_lent : (m : Map) (p : Spacing) (km : ℕ) (o : SearchOutcome) (n : Map) (q : Spacing) → o ≡ search_call n q km job_buffers → n ≡ m → q ≡ p
     → o.answer ≡ (search_call m p km job_buffers).answer
@@ -50,18 +50,18 @@ search_lent m p km o n q h d e = rw (sym d, sym e) (ap (λ (x : SearchOutcome). 
 
 module _ (s : JobState) (spacing : ℕ) (share : Float) {r : SmallestResult}
     (is : IsLeast (smallest_call (job_map s) (job_spacing spacing) share s.ledger job_buffers) r) where
-  pub least_found : {a : Smallest} {t : JobState} {line : Line} → r.answer ≡ smallest-answer.Found a → t ≡ ledger_state s r.ledger → line ≡ line_of (least_line a)
+  pub least_found : {a : Smallest} {t : JobState} {line : Line} → r.answer ≡ Ok a → t ≡ ledger_state s r.ledger → line ≡ line_of (least_line a)
       → gone_on t line ≡ later_in s (Least spacing share)
-  unfolding in_world world_of least_done smallest_answer command_state
+  unfolding in_world world_of least_done command_state
   least_found {a} e p q =
       gone_on_lem s (Least spacing share) (world (job_map s) r.ledger) (least_line a) (rw (sym is.answer, e, is.ledger)) (p ∙ ap (ledger_state s) is.ledger) q
 
-  pub least_refused : {n : ℕ} → r.answer ≡ smallest-answer.Refused n → refused_in s n ≡ later_in s (Least spacing share)
-  unfolding in_world world_of least_done smallest_answer
-  least_refused {n} e = refused_by s (Least spacing share) n (rw (sym is.answer, e))
+  pub least_refused : {e : Refusal} → r.answer ≡ Err e → refused_in s (number e) ≡ later_in s (Least spacing share)
+  unfolding in_world world_of least_done
+  least_refused {e} h = refused_by s (Least spacing share) (number e) (rw (sym is.answer, h))
 
 pub smallest_lent : (m : Map) (p : Spacing) (share : Float) (l : Ledger) (r : SmallestResult) (lent : Buffers) (n : Map) (q : Spacing)
-    → ◌≡◌ {A = SmallestOutcome} (record { answer = smallest_answer r.answer; ledger = r.ledger; lent = lent }) (smallest_call n q share l job_buffers)
+    → ◌≡◌ {A = SmallestOutcome} (record { answer = answer_of r.answer; ledger = r.ledger; lent = lent }) (smallest_call n q share l job_buffers)
     → n ≡ m → q ≡ p → IsLeast (smallest_call m p share l job_buffers) r
 smallest_lent m p share l r lent n q h d e =
     rw (sym d, sym e) (record { answer = ap (λ (x : SmallestOutcome). x.answer) h; ledger = ap (λ (x : SmallestOutcome). x.ledger) h })

@@ -1,11 +1,14 @@
 -- A kernel is the whole grid where its reach in every row is beyond half a turn, and then its circle is.
-use Prim.Native.Nat.{ℕ, ◌/◌, ◌≤◌, ◌<◌}
+use Prim.Native.Nat.{ℕ, ◌/◌, ◌≤◌, ◌<◌, zero-le}
 use mathlib.Core.Path.{◌≡◌, sym, ap, ◌∙◌}
-use mathlib.Core.Bool.{true, false}
+use mathlib.Core.Bool.{Bool, true, false}
 use mathlib.Core.List.{List}
 use native.Mathlib.Omega.{arith}
 use lib.Dec.{ltb}
-use lib.ListN.{get_or}
+use lib.ListN.{get_or, length, take}
+use Rattle.std.specs.Bool.{MatchBool}
+use Rattle.std.specs.List.{AllWithin, HoldsAt}
+use Rattle.std.proofs.lemmas.Grind.{common_steps}
 use lib.Ieee.{Float}
 use borrow.Author.Tests.{ltb-true, ltb-false, lt-ltb, le-ltb}
 use Rattle.lists.specs.Counted.{all_below}
@@ -49,12 +52,18 @@ module _ (g : Grid) (sizes : sizes_in_range g ≡ true) (k : Kernel) where
   unfolding kernel_covers in_kernel closing
   covers_by_reach = all_ext g.height _ _ (λ r h. row_covered g.width (get_or k.reach r 0) (grid_sizes g sizes).some_columns)
 
-  module _ (n : ℕ) (e : n ≡ closing g) where
-    pub covers_yes : all_below g.height (λ r. ltb n (get_or k.reach r 0)) ≡ true → true ≡ kernel_covers g k
-    covers_yes a = sym (covers_by_reach ∙ (rw e at a))
+  -- as the reaches of the grid's rows are tested in turn
+  abbrev pub rows_of : List ℕ
+  rows_of = take g.height k.reach
 
-    pub covers_no : (r : ℕ) → r < g.height → ltb n (get_or k.reach r 0) ≡ false → false ≡ kernel_covers g k
-    covers_no r h a = sym (covers_by_reach ∙ all_fails g.height (λ i. ltb (closing g) (get_or k.reach i 0)) r h (rw e at a))
+  pub covers_tested : (n : ℕ) → n ≡ closing g → g.height ≤ length k.reach → (b : Bool)
+      → MatchBool b (AllWithin (λ x. n < x) rows_of 0 (length rows_of)) ((r : ℕ) × (r < length rows_of) × HoldsAt (λ x. x ≤ n) rows_of r) → b ≡ kernel_covers g k
+  covers_tested n e l true all =
+      sym (covers_by_reach ∙ all_of g.height _ (λ r h.
+      let f : n < get_or rows_of r 0 = all r 0 zero-le (grind (arith, common_steps)) in lt-ltb _ _ (grind (arith, common_steps))))
+  covers_tested n e l false (r, h, fell) =
+      let f : get_or rows_of r 0 ≤ n = fell 0 in
+      sym (covers_by_reach ∙ all_fails g.height _ r (grind (arith, common_steps)) (le-ltb _ _ (grind (arith, common_steps))))
 
 -- ---- a circle
 

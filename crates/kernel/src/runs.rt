@@ -19,11 +19,9 @@ pub(crate) fn mark(reaches: &[u8], north: u32, end: u32, runs: &mut [u8])
     requires runs_len { length runs.old ≡ row_places }
     ensures { Filled (run_in reaches.now) north end runs.old runs.new }
 {
-    let mut row = end;
     let mut to = end;
     let mut below: u8 = 0;
-    while north < row {
-        row -= 1;
+    for row in (north..end).rev() {
         let here = reaches[row as usize];
         to = run_of(here, below, row, to);
         below = here;

@@ -1,32 +1,26 @@
 -- Laws of a list of entries: what finding sees of an entering, and what an entering keeps.
 use Prim.Native.Nat.{ℕ, suc, ◌+◌, ◌≤◌}
 use mathlib.Core.Path.{◌≡◌, refl, sym, ap}
-use mathlib.Core.Bool.{Bool, true, false}
+use mathlib.Core.Bool.{true, false}
 use mathlib.Core.List.{List, [], ◌∷◌}
 use native.Mathlib.Omega.{arith}
 use lib.Dec.{leb, ltb, eqb}
 use lib.ListN.{length}
 use borrow.Author.Tests.{eqb-true, eqb-false, ltb-true, ltb-false, eq-eqb, ne_eqb, le-leb}
-use Rattle.lists.proofs.Bools.{and_both, and_left, and_right, cond_case}
+use Rattle.std.proofs.Common.{Some, None}
+use Rattle.lists.proofs.Bools.{and_both, and_left, and_right, cases, cond_case}
 use Rattle.grid.specs.declared.Grid.{Grid}
 use Rattle.ledger.specs.declared.Entry.{Entry}
-use Rattle.ledger.specs.declared.Got.{Got}
-use Rattle.ledger.specs.declared.Got.TheVariants.{Circle, Nothing}
 use Rattle.ledger.specs.Ledger.{find, enter, entry_in_bounds, rising_from, all_in_bounds}
 
--- an entry stands there
-unfoldable pub there : Got → Bool
-there (Circle c) = true
-there Nothing = false
-
 -- the kilometre entered is found with what was entered, and any other as before
-pub find_enter_same : (es : List Entry) (x : Entry) → find (enter es x) x.km.0 ≡ Circle x.centre
+pub find_enter_same : (es : List Entry) (x : Entry) → find (enter es x) x.km.0 ≡ Some x.centre
 unfolding find enter
 find_enter_same [] x = rw (eq-eqb x.km.0 x.km.0 refl)
 find_enter_same (e ∷ es) x =
-    cond_case (λ (l : List Entry). find l x.km.0 ≡ Circle x.centre) (ltb x.km.0 e.km.0) _ _
+    cond_case (λ (l : List Entry). find l x.km.0 ≡ Some x.centre) (ltb x.km.0 e.km.0) _ _
     (λ t. rw (eq-eqb x.km.0 x.km.0 refl))
-    (λ t. cond_case (λ (l : List Entry). find l x.km.0 ≡ Circle x.centre) (eqb x.km.0 e.km.0) _ _
+    (λ t. cond_case (λ (l : List Entry). find l x.km.0 ≡ Some x.centre) (eqb x.km.0 e.km.0) _ _
     (λ u. rw (eq-eqb x.km.0 x.km.0 refl))
     (λ u. rw (ne_eqb e.km.0 x.km.0 (λ k. eqb-false x.km.0 e.km.0 u (sym k))) (find_enter_same es x)))
 
@@ -38,10 +32,10 @@ find_enter_other (e ∷ es) x km o =
     (λ t. rw o)
     (λ t. cond_case (λ (l : List Entry). find l km ≡ find (e ∷ es) km) (eqb x.km.0 e.km.0) _ _
     (λ u. let same = eqb-true x.km.0 e.km.0 u in rw (o, ← same, o))
-    (λ u. rw (find_enter_other es x km o)))
+    (λ u. cases (eqb e.km.0 km) (λ v. rw v) (λ v. rw v (find_enter_other es x km o))))
 
 -- a new kilometre is one entry more
-pub length_enter : (es : List Entry) (x : Entry) → find es x.km.0 ≡ Nothing → length (enter es x) ≡ suc (length es)
+pub length_enter : (es : List Entry) (x : Entry) → find es x.km.0 ≡ None → length (enter es x) ≡ suc (length es)
 unfolding find enter
 length_enter [] x n = refl
 length_enter (e ∷ es) x n =
@@ -50,7 +44,7 @@ length_enter (e ∷ es) x n =
     (λ u. absurd (held (eq-eqb e.km.0 x.km.0 (sym (eqb-true x.km.0 e.km.0 u)))))
     (λ u. ap suc (length_enter es x (rw (ne_eqb e.km.0 x.km.0 (λ k. eqb-false x.km.0 e.km.0 u (sym k))) at n))))
   where
-    never : Circle e.centre ≡ Nothing → ⊥
+    never : Some e.centre ≡ None → ⊥
     never z = let o : ◌≡◌ {A = ℕ} 0 1 = cc in omega arith
 
     held : eqb e.km.0 x.km.0 ≡ true → ⊥

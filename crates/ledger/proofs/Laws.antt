@@ -7,6 +7,8 @@ use native.Mathlib.Omega.{arith}
 use lib.Dec.{eqb}
 use lib.ListN.{length}
 use borrow.Author.Tests.{leb-true, eqb-true, le-leb}
+use Rattle.std.specs.Option.{is_some}
+use Rattle.std.proofs.Common.{Option, Some, None}
 use Rattle.lists.specs.Front.{onto}
 use Rattle.lists.proofs.Bools.{and_both, cases}
 use Rattle.lists.proofs.Fronts.{take_onto}
@@ -14,10 +16,8 @@ use Rattle.grid.specs.declared.Grid.{Grid}
 use Rattle.candidates.specs.declared.Candidate.{Candidate}
 use Rattle.ledger.specs.declared.Entry.{Entry}
 use Rattle.ledger.specs.declared.Ledger.{Ledger}
-use Rattle.ledger.specs.declared.Got.{Got}
-use Rattle.ledger.specs.declared.Got.TheVariants.{Circle, Nothing}
 use Rattle.ledger.specs.Ledger.{capacity, entries, with_entries, get, enter, put, entry_in_bounds, rising_from, all_in_bounds, ledger_in_order, places_free}
-use Rattle.ledger.proofs.Entries.{there, find_enter_same, find_enter_other, length_enter, length_enter_most, rising_enter, in_bounds_enter}
+use Rattle.ledger.proofs.Entries.{find_enter_same, find_enter_other, length_enter, length_enter_most, rising_enter, in_bounds_enter}
 
 pub entries_with : (l : Ledger) (es : List Entry) → entries (with_entries l es) ≡ es
 unfolding entries with_entries
@@ -34,7 +34,7 @@ module _ (l : Ledger) (x : Entry) where
   len_put = ap length (sym (entries_with l (enter (entries l) x)))
 
   -- get sees what was put, and any other kilometre as before
-  pub get_put_same : get (put l x) x.km.0 ≡ Circle x.centre
+  pub get_put_same : get (put l x) x.km.0 ≡ Some x.centre
   unfolding get
   get_put_same = rw entries_put (find_enter_same (entries l) x)
 
@@ -42,27 +42,26 @@ module _ (l : Ledger) (x : Entry) where
   unfolding get
   get_put_other km o = rw entries_put (find_enter_other (entries l) x km o)
 
-  pub there_put : (km : ℕ) → there (get (put l x) km) ≡ (eqb x.km.0 km || there (get l km))
-  unfolding there
+  pub there_put : (km : ℕ) → is_some (get (put l x) km) ≡ (eqb x.km.0 km || is_some (get l km))
   there_put km =
       cases (eqb x.km.0 km)
       (λ e. let same = eqb-true x.km.0 km e in rw (e, ← same, get_put_same))
       (λ e. rw (e, get_put_other km e))
 
   -- what holds of the circle put and of every one that get saw holds of every one that get sees
-  pub got_put : (P : ℕ → Candidate → Type 0) → P x.km.0 x.centre → ((km : ℕ) (c : Candidate) → get l km ≡ Circle c → P km c)
-      → (km : ℕ) (c : Candidate) → get (put l x) km ≡ Circle c → P km c
+  pub got_put : (P : ℕ → Candidate → Type 0) → P x.km.0 x.centre → ((km : ℕ) (c : Candidate) → get l km ≡ Some c → P km c)
+      → (km : ℕ) (c : Candidate) → get (put l x) km ≡ Some c → P km c
   got_put P new old km c g =
       cases (eqb x.km.0 km)
       (λ e.
       let same = eqb-true x.km.0 km e in
-      let gets : Circle x.centre ≡ Circle c = sym get_put_same ∙ rw (← same) at g in
+      let gets : Some x.centre ≡ Some c = sym get_put_same ∙ rw (← same) at g in
       let is : x.centre ≡ c = cc in
       rw (← same, ← is) new)
       (λ e. old km c (sym (get_put_other km e) ∙ g))
 
   -- a put at a new kilometre is one entry more
-  pub length_put : get l x.km.0 ≡ Nothing → length (entries (put l x)) ≡ suc (length (entries l))
+  pub length_put : get l x.km.0 ≡ None → length (entries (put l x)) ≡ suc (length (entries l))
   unfolding get
   length_put n = rw entries_put (length_enter (entries l) x n)
 
@@ -77,16 +76,14 @@ module _ (l : Ledger) (x : Entry) where
   in_bounds_put g a b = rw entries_put (in_bounds_enter g (entries l) x a b)
 
 -- an entry that get gives stands there, and one stands there only where get gives it
-pub there_get : (l : Ledger) (km : ℕ) → there (get l km) ≡ true → (c : Candidate) × (get l km ≡ Circle c)
-unfolding there
+pub there_get : (l : Ledger) (km : ℕ) → is_some (get l km) ≡ true → (c : Candidate) × (get l km ≡ Some c)
 there_get l km t = go (get l km) t
   where
-    go : (f : Got) → there f ≡ true → (c : Candidate) × (f ≡ Circle c)
-    go (Circle c) t = (c, refl)
-    go Nothing t = absurd (true≢false (sym t))
+    go : (f : Option Candidate) → is_some f ≡ true → (c : Candidate) × (f ≡ Some c)
+    go (Some c) t = (c, refl)
+    go None t = absurd (true≢false (sym t))
 
-pub get_there : (l : Ledger) (km : ℕ) (c : Candidate) → get l km ≡ Circle c → there (get l km) ≡ true
-unfolding there
+pub get_there : (l : Ledger) (km : ℕ) (c : Candidate) → get l km ≡ Some c → is_some (get l km) ≡ true
 get_there l km c e = rw e
 
 -- question 11 from its parts, and question 12

@@ -7,13 +7,13 @@ use native.Mathlib.Omega.{arith}
 use lib.Dec.{eqb, leb, ltb}
 use lib.ListN.{length-take}
 use borrow.Author.Tests.{le-leb, leb-true, lt-ltb}
+use Rattle.std.proofs.Common.{Some}
 use Rattle.lists.proofs.Bools.{cases, and_both, and_left, and_right}
 use Rattle.grid.specs.declared.Grid.{Grid}
 use Rattle.grid.specs.Grid.{ceiling, on_grid}
 use Rattle.candidates.specs.declared.Candidate.{Candidate}
 use Rattle.candidates.specs.Candidate.{centre_of}
 use Rattle.ledger.specs.declared.Entry.{Entry}
-use Rattle.ledger.specs.declared.Got.TheVariants.{Circle}
 use Rattle.ledger.specs.declared.Ledger.{Ledger}
 use Rattle.ledger.specs.Ledger.{capacity, entry, entries, find, get, put, entry_in_bounds, rising_from, all_in_bounds, ledger_in_order}
 use Rattle.ledger.specs.Requires.{InBounds}
@@ -45,19 +45,19 @@ bounds_of g x e =
     let parts = all_three (ltb x.km.0 (ceiling g)) (on_grid g (centre_of x.centre)) (leb x.centre.population (2 ^ 53)) e in
     record { on = parts.1; exact = leb-true x.centre.population (2 ^ 53) parts.2 }
 
-found_in_bounds : (g : Grid) (es : List Entry) (km : ℕ) (c : Candidate) → all_in_bounds g es ≡ true → find es km ≡ Circle c → InBounds g c
+found_in_bounds : (g : Grid) (es : List Entry) (km : ℕ) (c : Candidate) → all_in_bounds g es ≡ true → find es km ≡ Some c → InBounds g c
 unfolding find all_in_bounds
 found_in_bounds g [] km c a e = let z : ◌≡◌ {A = ℕ} 0 1 = cc in absurd (omega arith)
 found_in_bounds g (x ∷ es) km c a e =
     cases (eqb x.km.0 km)
     (λ t.
-    let found : Circle x.centre ≡ Circle c = rw t at e in
+    let found : Some x.centre ≡ Some c = rw t at e in
     let is : x.centre ≡ c = cc in
     rw (← is) (bounds_of g x (and_left (entry_in_bounds g x) (all_in_bounds g es) a)))
     (λ t. found_in_bounds g es km c (and_right (entry_in_bounds g x) (all_in_bounds g es) a) (rw t at e))
 
 -- an entry of the ledger is in bounds
-pub got_in_bounds : (g : Grid) (l : Ledger) (km : ℕ) (c : Candidate) → ledger_in_order g l ≡ true → get l km ≡ Circle c → InBounds g c
+pub got_in_bounds : (g : Grid) (l : Ledger) (km : ℕ) (c : Candidate) → ledger_in_order g l ≡ true → get l km ≡ Some c → InBounds g c
 unfolding get
 got_in_bounds g l km c o e = found_in_bounds g (entries l) km c (ordered g l o).bounded e
 

@@ -1,5 +1,7 @@
 -- The ledger: its entries, get and put, and the questions that judge it.
-use Rattle.std.specs.Prelude.{ℕ, ◌+◌, ◌^◌, Bool, true, cond, ◌&&◌, List, [], ◌∷◌, length, take, leb, ltb, eqb}
+use Rattle.std.specs.Prelude.{ℕ, ◌+◌, ◌^◌, Bool, true, cond, ◌&&◌, List, [], ◌∷◌, length, take, leb, ltb, eqb, Option, Some, None}
+use Rattle.std.specs.List.{find as first}
+use Rattle.std.specs.Option.{option_map}
 use Rattle.lists.specs.Front.{onto}
 use Rattle.grid.specs.declared.Grid.{Grid}
 use Rattle.grid.specs.Grid.{ceiling, on_grid}
@@ -7,8 +9,6 @@ use Rattle.candidates.specs.declared.Candidate.{Candidate}
 use Rattle.candidates.specs.Candidate.{centre_of}
 use Rattle.ledger.specs.declared.Entry.{Entry}
 use Rattle.ledger.specs.declared.Ledger.{Ledger}
-use Rattle.ledger.specs.declared.Got.{Got}
-use Rattle.ledger.specs.declared.Got.TheVariants.{Circle, Nothing}
 
 -- the places of a ledger
 abbrev pub capacity : ℕ
@@ -31,12 +31,11 @@ unfoldable pub with_entries : Ledger → List Entry → Ledger
 with_entries l es = record { len = length es; places = onto es l.places }
 
 -- the first entry of a kilometre, sorted or not
-unfoldable pub find : List Entry → ℕ → Got
-find [] km = Nothing
-find (e ∷ es) km = let rest = find es km in cond (eqb e.km.0 km) (Circle e.centre) rest
+unfoldable pub find : List Entry → ℕ → Option Candidate
+find es km = option_map (λ (e : Entry). e.centre) (first (λ (e : Entry). eqb e.km.0 km) es)
 
 -- what a ledger holds of a kilometre
-unfoldable pub get : Ledger → ℕ → Got
+unfoldable pub get : Ledger → ℕ → Option Candidate
 get l km = find (entries l) km
 
 -- in place of an entry of the same kilometre, or before the first later one
@@ -78,9 +77,9 @@ unfoldable pub places_free : Ledger → ℕ → Bool
 places_free l n = leb (l.len + n) capacity
 
 -- of a put: one, if its kilometre is new
-unfoldable pub place_for : Ledger → Got → Bool
-place_for l (Circle c) = true
-place_for l Nothing = places_free l 1
+unfoldable pub place_for : Ledger → Option Candidate → Bool
+place_for l (Some c) = true
+place_for l None = places_free l 1
 
 -- opens all of the above, for facts that are computed
 unfoldable pub open_ledgers : Unit {0}

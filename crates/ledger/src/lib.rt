@@ -27,13 +27,6 @@ impl Ledger {
     pub const CAPACITY: usize = 512;
 }
 
-// What a ledger holds of a kilometre.
-#[derive(Clone, Copy)]
-pub enum Got {
-    Circle(Candidate),
-    Nothing,
-}
-
 // A ledger with no entries. An array needs words from the start, so its places are blank.
 pub fn fresh() -> Ledger
     ensures { result ≡ fresh_ledger }

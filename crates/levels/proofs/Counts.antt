@@ -1,5 +1,6 @@
 -- The counts of a level, for any sheet: what it prunes, settles and splits accounts for each of its cells, its children are shorter, and
 -- blocks and kernels are counted against the blocks examined.
+use Rattle.std.proofs.Common.{Option}
 use Prim.Native.Nat.{ℕ, suc, ◌+◌, ◌*◌, ◌≤◌, ◌<◌}
 use mathlib.Core.Path.{◌≡◌, refl, ap, ◌∙◌}
 use mathlib.Core.List.{List, [], ◌∷◌, ◌++◌}
@@ -15,10 +16,10 @@ use Rattle.lists.proofs.Sorts.{all_sort, total_sort, length_sort}
 use Rattle.grid.specs.declared.Grid.{Grid}
 use Rattle.grid.specs.Map.{Map}
 use Rattle.blocks.specs.declared.Block.{Block}
-use Rattle.candidates.specs.declared.Held.{Held}
 use Rattle.tally.specs.declared.Tally.{Tally}
 use Rattle.blocks.specs.Block.{area, by_probe, split, Rectangle}
 use Rattle.bounds.specs.Bound.{wide_km, bound}
+use Rattle.candidates.specs.declared.Candidate.{Candidate}
 use Rattle.candidates.specs.Candidate.{prunes}
 use Rattle.tally.specs.Counts.{plus, plus_stats}
 use Rattle.chunk_work.specs.Work.{Outcome, Work}
@@ -137,7 +138,7 @@ module _ (g : Grid) where
 
   -- ---- a chunk
 
-  chunk_counts : (m : Map) (km : Float) (best : Held) (o p : Outcome) (bs : List Block) → Counts g 0 (started m km best).outcome p bs
+  chunk_counts : (m : Map) (km : Float) (best : Option Candidate) (o p : Outcome) (bs : List Block) → Counts g 0 (started m km best).outcome p bs
       → Counts g 1 o (joined o p) bs
   unfolding joined started plus plus_stats total_of concat_each
   chunk_counts m km best o p bs s =
@@ -172,7 +173,7 @@ next_fits g n o p bs s e z rs =
     let none_left : total_of area (next o) ≡ 0 = rw e in
     omega (arith, length_area g (next_rectangles g n o p bs s e rs), s.cells)
 
-pub counts_kept : (m : Map) (km : Float) (best : Held) → Kept m km best (Counts m.globe.grid)
+pub counts_kept : (m : Map) (km : Float) (best : Option Candidate) → Kept m km best (Counts m.globe.grid)
 counts_kept m km best =
     let g = m.globe.grid in
     record { nothing = counts_nothing g; block = block_counts g m km; then = counts_then g; chunk = chunk_counts g m km best }
@@ -190,7 +191,7 @@ pub record LevelCounts (g : Grid) (p : Outcome) (bs : List Block) : Type 0 where
   -- two kernels at most for a block, and two for each of at most four chunks
   pub kernels : p.tally.stats.kernels_built ≤ 2 * length bs + 8
 
-pub level_counts : (m : Map) (km : Float) (best : Held) (bs : List Block) → AllOf (Rectangle m.globe.grid) bs
+pub level_counts : (m : Map) (km : Float) (best : Option Candidate) (bs : List Block) → AllOf (Rectangle m.globe.grid) bs
     → LevelCounts m.globe.grid (level m km best bs) bs
 unfolding total_of concat_each
 level_counts m km best bs rs =

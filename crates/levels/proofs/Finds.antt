@@ -1,5 +1,6 @@
 -- A level finds: each of its cells is at most what is held or in a block of the next level, and what is held only gets better. Circles and
 -- bounds stay shut: all that is asked of them is that a block's bound is at least the population of each circle whose centre it holds.
+use Rattle.std.proofs.Common.{Option, Some, IfSome}
 use mathlib.Core.Path.{◌≡◌, refl}
 use mathlib.Core.Logic.{◌⊎◌, inl, inr}
 use mathlib.Core.Bool.{true, false}
@@ -19,8 +20,6 @@ use Rattle.grid.specs.Map.{Map}
 use Rattle.circle_cells.specs.Circle.{population}
 use Rattle.blocks.specs.declared.Block.{Block}
 use Rattle.candidates.specs.declared.Candidate.{Candidate}
-use Rattle.candidates.specs.declared.Held.{Held}
-use Rattle.candidates.specs.declared.Held.TheVariants.{Best}
 use Rattle.blocks.specs.Block.{is_cell, probe, by_probe, split, Rectangle, Holds}
 use Rattle.bounds.specs.Bound.{wide_km, bound}
 use Rattle.candidates.specs.Candidate.{centre_of, candidate, better_held, prunes}
@@ -28,7 +27,7 @@ use Rattle.chunk_work.specs.Work.{Outcome, Work}
 use Rattle.levels.specs.Level.{pruned, evaluated, examine, started, joined, level}
 use Rattle.bounds.proofs.Bounds.{Bounded}
 use Rattle.grid.proofs.CellOrder.{of_on_grid}
-use Rattle.candidates.proofs.Order.{Below, OfHeld, ≼_refl, better_first, better_second, better_of, pruned_below}
+use Rattle.candidates.proofs.Order.{Below, ≼_refl, better_first, better_second, better_of, pruned_below}
 use Rattle.blocks.proofs.Tiles.{split_cover, probe_held, cell_probe}
 use Rattle.levels.proofs.Rule.{begun, Kept, level_rule}
 use Rattle.levels.proofs.Counts.{next}
@@ -48,12 +47,12 @@ only (there a) = elim a [ ]
 
 module _ (m : Map) (km : Float) where
   -- the circle of a cell is at most what is held, or one of the blocks holds the cell
-  abbrev pub Found : Cell → Held → List Block → Type 0
+  abbrev pub Found : Cell → Option Candidate → List Block → Type 0
   Found x h bs = Below (candidate m km x) h ⊎ AnyOf (λ b. Holds b x) bs
 
   pub record Step (o p : Outcome) (bs : List Block) : Type 0 where
     pub grows : (k : Candidate) → Below k o.held → Below k p.held
-    pub circle : OfHeld (Circle m km) o.held → OfHeld (Circle m km) p.held
+    pub circle : IfSome o.held (Circle m km) → IfSome p.held (Circle m km)
     pub found : (x : Cell) → AnyOf (λ b. Holds b x) bs → Found x p.held (next p)
     pub keeps : (x : Cell) → AnyOf (λ b. Holds b x) (next o) → AnyOf (λ b. Holds b x) (next p)
 
@@ -117,8 +116,8 @@ module _ (m : Map) (km : Float) where
       o : Outcome
       o = w.outcome
 
-      probed : Held
-      probed = Best (candidate m km (probe b))
+      probed : Option Candidate
+      probed = Some (candidate m km (probe b))
 
       settled : (x : Cell) → Holds b x → is_cell b ≡ true → Found x (better_held o.held probed) (concat_each split (o.survivors ++ b ∷ []))
       settled x h e =
@@ -137,7 +136,7 @@ module _ (m : Map) (km : Float) where
   -- ---- a chunk, and a level
 
   -- what a chunk came to by itself is joined to what came before
-  joined_step : (best : Held) → OfHeld (Circle m km) best → (o p : Outcome) (bs : List Block) → Step (started m km best).outcome p bs → Step o (joined o p) bs
+  joined_step : (best : Option Candidate) → IfSome best (Circle m km) → (o p : Outcome) (bs : List Block) → Step (started m km best).outcome p bs → Step o (joined o p) bs
   unfolding joined started
   joined_step best c o p bs s =
       record {
@@ -151,7 +150,7 @@ module _ (m : Map) (km : Float) where
       after x (inl b) = inl (better_second (candidate m km x) o.held p.held b)
       after x (inr a) = inr (rw (concat_append split o.survivors p.survivors) (any_right (concat_each split o.survivors) a))
 
-  step_kept : Bounded m km → (best : Held) → OfHeld (Circle m km) best → Kept m km best (λ n. Step)
+  step_kept : Bounded m km → (best : Option Candidate) → IfSome best (Circle m km) → Kept m km best (λ n. Step)
   step_kept bounded best c =
       record { nothing = step_nothing; block = block_step bounded; then = λ i j. step_then; chunk = joined_step best c }
 
@@ -165,7 +164,7 @@ module _ (m : Map) (km : Float) where
         keeps = s.keeps;
       }
 
-  pub level_step : Bounded m km → (best : Held) → OfHeld (Circle m km) best → (bs : List Block) → AllOf (Rectangle m.globe.grid) bs
+  pub level_step : Bounded m km → (best : Option Candidate) → IfSome best (Circle m km) → (bs : List Block) → AllOf (Rectangle m.globe.grid) bs
       → Step (begun best) (level m km best bs) bs
   level_step bounded best c bs rs =
       unsorted (begun best) (level m km best bs) bs (level_rule m km best (λ n. Step) (step_kept bounded best c) bs rs)

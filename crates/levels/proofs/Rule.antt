@@ -1,4 +1,5 @@
 -- The induction through a level: what examining one block has, and lists one after another and chunks joined keep, the whole level has.
+use Rattle.std.proofs.Common.{Option}
 use Prim.Native.Nat.{ℕ, zero, suc, ◌+◌, ◌*◌, ◌≤◌, min}
 use mathlib.Core.Path.{◌≡◌, subst}
 use mathlib.Core.List.{List, [], ◌∷◌, ◌++◌}
@@ -14,11 +15,11 @@ use Rattle.lists.proofs.Elements.{all_left, all_right}
 use Rattle.lists.proofs.Sorts.{all_sort, pieces_whole, all_pieces}
 use Rattle.grid.specs.Map.{Map}
 use Rattle.blocks.specs.declared.Block.{Block}
-use Rattle.candidates.specs.declared.Held.{Held}
 use Rattle.blocks.specs.Block.{by_probe, Rectangle}
 use Rattle.tally.specs.Counts.{stats, tally}
 use Rattle.chunk_work.specs.Work.{Outcome, Work}
 use Rattle.levels.specs.Level.{examine, started, chunk, chunks, joined, level_in_order, level}
+use Rattle.candidates.specs.declared.Candidate.{Candidate}
 
 -- ---- chunks
 
@@ -60,17 +61,17 @@ all_of_concat (p ∷ ps) a = also (all_left p (concat_each (λ q. q) ps) a) (all
 -- ---- the rule
 
 -- a level before its first chunk
-abbrev pub begun : Held → Outcome
+abbrev pub begun : Option Candidate → Outcome
 begun best = record { held = best; survivors = []; tally = tally (stats 1 0 0 0 0) 0 0 }
 
 -- R n o p bs: from the outcome o to the outcome p the blocks bs are examined, in n chunks of their own
-pub record Kept (m : Map) (km : Float) (best : Held) (R : ℕ → Outcome → Outcome → List Block → Type 0) : Type 0 where
+pub record Kept (m : Map) (km : Float) (best : Option Candidate) (R : ℕ → Outcome → Outcome → List Block → Type 0) : Type 0 where
   pub nothing : (o : Outcome) → R 0 o o []
   pub block : (w : Work) (b : Block) → Rectangle m.globe.grid b → R 0 w.outcome (examine m km w b).outcome (b ∷ [])
   pub then : (i j : ℕ) (o p q : Outcome) (xs ys : List Block) → R i o p xs → R j p q ys → R (i + j) o q (xs ++ ys)
   pub chunk : (o p : Outcome) (bs : List Block) → R 0 (started m km best).outcome p bs → R 1 o (joined o p) bs
 
-module _ (m : Map) (km : Float) (best : Held) (R : ℕ → Outcome → Outcome → List Block → Type 0) (kept : Kept m km best R) where
+module _ (m : Map) (km : Float) (best : Option Candidate) (R : ℕ → Outcome → Outcome → List Block → Type 0) (kept : Kept m km best R) where
   pub fold_rule : (w : Work) {bs : List Block} → AllOf (Rectangle m.globe.grid) bs → R 0 w.outcome (fold (examine m km) w bs).outcome bs
   unfolding fold
   fold_rule w none = kept.nothing w.outcome

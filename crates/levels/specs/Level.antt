@@ -1,15 +1,14 @@
 -- One level of the search: its blocks in the order of their probes, in chunks for four workers, each block pruned or evaluated.
-use Rattle.std.specs.Prelude.{◌+◌, ◌/◌, min, cond, List, [], ◌∷◌, ◌++◌, length, Float}
+use Rattle.std.specs.Prelude.{◌+◌, ◌/◌, min, cond, List, [], ◌∷◌, ◌++◌, length, Float, Option, Some}
 use Rattle.lists.specs.Counted.{max, div_ceil, one}
 use Rattle.lists.specs.Lists.{fold, each, sort, pieces}
 use Rattle.grid.specs.declared.Row.{Row}
 use Rattle.grid.specs.Map.{Map}
 use Rattle.blocks.specs.declared.Block.{Block}
-use Rattle.candidates.specs.declared.Held.{Held}
-use Rattle.candidates.specs.declared.Held.TheVariants.{Best}
 use Rattle.tally.specs.Counts.{stats, tally, plus}
 use Rattle.blocks.specs.Block.{area, is_cell, probe, by_probe}
 use Rattle.bounds.specs.Bound.{wide_km, bound}
+use Rattle.candidates.specs.declared.Candidate.{Candidate}
 use Rattle.candidates.specs.Candidate.{candidate, better_held, prunes}
 use Rattle.chunk_work.specs.Work.{Outcome, Work, wide_built, exact_built}
 
@@ -36,7 +35,7 @@ evaluated m km w b wide =
     let o = w.outcome in
     record {
       outcome = record {
-        held = better_held o.held (Best (candidate m km (probe b)));
+        held = better_held o.held (Some (candidate m km (probe b)));
         survivors = o.survivors ++ b ∷ [];
         tally = plus o.tally (tally (stats 0 1 0 1 (wide_built w b wide + exact_built w b)) 0 (one (is_cell b)));
       };
@@ -52,7 +51,7 @@ examine m km w b =
     cond (prunes (bound m km b) w.outcome.held) (pruned w b wide) (evaluated m km w b wide)
 
 -- a chunk begins with what was held when its level began, and with two kernels that count as built: of the middle row and the plain radius
-unfoldable pub started : Map → Float → Held → Work
+unfoldable pub started : Map → Float → Option Candidate → Work
 started m km best =
     let middle_row : Row = record { 0 = m.globe.grid.height / 2 } in
     record {
@@ -63,7 +62,7 @@ started m km best =
     }
 
 -- the blocks of a chunk in turn
-unfoldable pub chunk : Map → Float → Held → List Block → Outcome
+unfoldable pub chunk : Map → Float → Option Candidate → List Block → Outcome
 chunk m km best bs = (fold (examine m km) (started m km best) bs).outcome
 
 -- ---- a level
@@ -78,13 +77,13 @@ joined o p =
     record { held = better_held o.held p.held; survivors = o.survivors ++ p.survivors; tally = plus o.tally p.tally }
 
 -- the outcomes of the chunks of blocks that are in order, joined in order
-unfoldable pub level_in_order : Map → Float → Held → List Block → Outcome
+unfoldable pub level_in_order : Map → Float → Option Candidate → List Block → Outcome
 level_in_order m km best sorted =
     let begun : Outcome = record { held = best; survivors = []; tally = tally (stats 1 0 0 0 0) 0 0 } in
     fold joined begun (each (chunk m km best) (chunks sorted))
 
 -- a level: its blocks by probe
-unfoldable pub level : Map → Float → Held → List Block → Outcome
+unfoldable pub level : Map → Float → Option Candidate → List Block → Outcome
 level m km best bs = level_in_order m km best (sort by_probe bs)
 
 -- opens all of the above, for facts that are computed

@@ -1,5 +1,5 @@
 -- A level as the code carries it: the map by its sums, a chunk at work with its kernels, and the children in the other buffer.
-use Rattle.std.specs.Prelude.{ℕ, ◌/◌, ◌-◌, ◌≡◌, true, List, Float, take, drop}
+use Rattle.std.specs.Prelude.{ℕ, ◌/◌, ◌-◌, ◌≡◌, true, List, Float, take, drop, Option}
 use Rattle.lists.specs.Lists.{each, concat_each}
 use Rattle.grid.specs.declared.Row.{Row}
 use Rattle.grid.specs.declared.Grid.{Grid}
@@ -10,7 +10,7 @@ use Rattle.blocks.specs.declared.Block.{Block}
 use Rattle.blocks.specs.Block.{same_shape, Rectangle, split}
 use Rattle.blocks.specs.State.{word_of, block_of, Written}
 use Rattle.bounds.specs.State.{wide_kernel}
-use Rattle.candidates.specs.declared.Held.{Held}
+use Rattle.candidates.specs.declared.Candidate.{Candidate}
 use Rattle.candidates.specs.Candidate.{better_held}
 use Rattle.chunk_work.specs.declared.ChunkWork.{ChunkWork}
 use Rattle.levels.specs.declared.ChunkResult.{ChunkResult}
@@ -28,7 +28,7 @@ abbrev pub Serves : Grid → List Float → List Float → Float → Block → K
 Serves g angles cosines km shape k = (b : Block) → Rectangle g b → same_shape shape b ≡ true → k ≡ wide_kernel (globe_of g angles cosines) km b
 
 -- a chunk that starts: two kernels at the middle row and the plain radius, which count as built
-unfoldable pub started_work : Grid → Float → Held → ChunkWork
+unfoldable pub started_work : Grid → Float → Option Candidate → ChunkWork
 started_work g km best =
     let middle_row : Row = record { 0 = g.height / 2 } in
     record { held = best; tally = tally (stats 0 0 0 0 2) 0 0; wide_row = middle_row; wide_km = km; exact_row = middle_row }

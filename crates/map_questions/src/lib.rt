@@ -7,4 +7,4 @@ mod refusals;
 
 pub use complete::{counts_complete, sheet_complete};
 pub use order::sheet_in_order;
-pub use refusals::{map_refusal, sheet_refusal};
+pub use refusals::{map_asked, sheet_asked};

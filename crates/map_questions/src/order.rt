@@ -8,10 +8,11 @@ ghost use Rattle.grid.specs.Questions.{sheet_complete, cosines_in_range, sheet_i
 use grid::Grid;
 
 // Above 0 and at most 1.
+#[tactic(auto, using(floats::proofs::Literals::literal_0, floats::proofs::Literals::literal_1))]
 fn cosine_in_range(x: f64) -> bool
     ensures { result ≡ (lt (whole 0) x && le x (whole 1)) }
 {
-    if 0.0 < x { x <= 1.0 } else { false }
+    0.0 < x && x <= 1.0
 }
 
 // Every row's cosine is in range.
@@ -19,16 +20,7 @@ fn cosines_in_range(grid: Grid, cosines: &[f64]) -> bool
     requires { length cosines.now ≡ grid.height }
     ensures { result ≡ cosines_in_range (globe_of grid [] cosines.now) }
 {
-    let n = cosines.len();
-    let mut i: usize = 0;
-    while i < n {
-        if cosine_in_range(cosines[i]) {
-            i += 1;
-        } else {
-            return false;
-        }
-    }
-    true
+    cosines.iter().all(|x| cosine_in_range(*x))
 }
 
 // Question 6, of a sheet that has passed question 5: cosines and angles in range, and angles that do not fall away from the centre.
@@ -37,8 +29,5 @@ pub fn sheet_in_order(grid: Grid, angles: &[f64], cosines: &[f64]) -> bool
     requires { sheet_complete (globe_of grid angles.now cosines.now) ≡ true }
     ensures { result ≡ sheet_in_order (globe_of grid angles.now cosines.now) }
 {
-    if !cosines_in_range(grid, cosines) {
-        return false;
-    }
-    sheet::angles_in_order(grid, angles)
+    cosines_in_range(grid, cosines) && sheet::angles_in_order(grid, angles)
 }

@@ -7,10 +7,11 @@ use lib.Dec.{leb}
 use lib.ListN.{length, get_or}
 use borrow.Author.Tests.{leb-true}
 use Rattle.lists.proofs.Bools.{and_left, and_right}
+use Rattle.grid.specs.declared.RadiusKm.{RadiusKm}
 use Rattle.grid.specs.Grid.{cells}
 use Rattle.grid.specs.Map.{Map}
-use Rattle.grid.specs.Answer.{first_no, answered, refused, after, shown}
-use Rattle.grid.proofs.Answers.{Passed, PassedCall, map_then, decide_yes, decide_no}
+use Rattle.grid.specs.Answer.{first_no, answered, refused, decide, after, shown}
+use Rattle.grid.proofs.Answers.{Passed, PassedCall, map_then, decide_yes, refused_alike}
 use Rattle.sums.specs.Sums.{sums_fit, filled_sums}
 use Rattle.sums.specs.State.{counts_map, globe_map}
 use Rattle.sums_fill.specs.Requires.{Fillable}
@@ -30,10 +31,10 @@ module _ (m : Map) (spacing : Spacing) (km : ℕ) (lent : Buffers) where
 
   -- ---- what the call gives
 
-  pub search_refused : (n : ℕ) → n ≡ first_no (search_questions m spacing km lent) → (n ≡ 0 → ⊥)
+  pub search_refused : (n : ℕ) (r : RadiusKm) → refused n ≡ decide (first_no (search_questions m spacing km lent)) r
       → record { answer = refused n; lent = record { sums = lent.sums; current = lent.current; following = lent.following } } ≡ search_call m spacing km lent
   unfolding search_call buffers_after after shown
-  search_refused n e h = rw (decide_no n (first_no (search_questions m spacing km lent)) (search m spacing km) e h)
+  search_refused n r e = rw (refused_alike n (first_no (search_questions m spacing km lent)) r (search m spacing km) e)
 
   pub search_answered : (found : MostPopulous) (sums current following : List ℕ) → first_no (search_questions m spacing km lent) ≡ 0
       → found ≡ search m spacing km → sums ≡ filled_sums m lent.sums → length current ≡ length lent.current → length following ≡ length lent.following

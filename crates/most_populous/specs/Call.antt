@@ -1,17 +1,17 @@
 -- The search call.
-use Rattle.std.specs.Prelude.{ℕ, List, [], ◌∷◌, ◌++◌, Bool, ◌&&◌, length, leb}
+use Rattle.std.specs.Prelude.{Result, ℕ, List, [], ◌∷◌, ◌++◌, Bool, ◌&&◌, length, leb}
 use Rattle.grid.specs.declared.Grid.{Grid}
 use Rattle.grid.specs.Map.{Map}
 use Rattle.grid.specs.Grid.{cells}
-use Rattle.grid.specs.Answer.{Question, question, first_no, Answer, answered, refused, decide, after, shown}
+use Rattle.grid.specs.declared.refusal.Refusal.{Refusal}
+use Rattle.grid.specs.Answer.{Question, question, first_no, Answer, decide, after, shown}
+use Rattle.grid.specs.Refusal.{answer_of}
 use Rattle.grid.specs.Questions.{map_questions}
 use Rattle.sums.specs.Sums.{sums_fit, filled_sums}
 use Rattle.grid.specs.Questions.{radius_in_range}
 use Rattle.spacing.specs.declared.Spacing.{Spacing}
 use Rattle.spacing.specs.Spacing.{spacing_given}
 use Rattle.search_rules.specs.declared.MostPopulous.{MostPopulous}
-use Rattle.most_populous.specs.declared.SearchAnswer.{SearchAnswer}
-use Rattle.most_populous.specs.declared.SearchAnswer.TheVariants as search-answer
 use Rattle.search_rules.specs.Search.{search}
 
 -- the buffers that a call is lent: the sums and two level buffers
@@ -50,17 +50,12 @@ search_call m spacing km lent =
     let answer = decide (first_no (search_questions m spacing km lent)) (search m spacing km) in
     record { answer = answer; lent = buffers_after answer m lent }
 
--- the specification's number and values for each case of the answer
-unfoldable pub search_answer : SearchAnswer → Answer MostPopulous
-search_answer (search-answer.Found f) = answered f
-search_answer (search-answer.Refused n) = refused n
-
 -- what the code's call gave: its answer, and its buffers as it left them, the level buffers as far as they are stated
-abbrev pub search_gave : SearchAnswer → List ℕ → List ℕ → List ℕ → SearchOutcome
+abbrev pub search_gave : Result MostPopulous Refusal → List ℕ → List ℕ → List ℕ → SearchOutcome
 search_gave r sums current following =
-    record { answer = search_answer r; lent = buffers sums (shown (search_answer r) current) (shown (search_answer r) following) }
+    record { answer = answer_of r; lent = buffers sums (shown (answer_of r) current) (shown (answer_of r) following) }
 
 -- opens all of the above, for facts that are computed
 unfoldable pub open_search_calls : Unit {0}
-unfolding buffers_fit buffers_after search_questions search_call search_answer
+unfolding buffers_fit buffers_after search_questions search_call
 open_search_calls = tt

@@ -1,29 +1,26 @@
 // The search call: its questions first, and then the sums and the search.
 ghost use Rattle.std.specs.Prelude.{◌≡◌};
-ghost use Rattle.grid.specs.Answer.{first_no};
+ghost use Rattle.grid.specs.Answer.{first_no, decide};
 ghost use Rattle.grid.specs.Map.{lent_map};
-ghost use Rattle.grid.specs.Questions.{asked};
+ghost use Rattle.grid.specs.Refusal.{answer_of};
 ghost use Rattle.most_populous.specs.Call.{buffers, buffers_fit, search_questions, search_call, search_gave};
 
-use crate::SearchAnswer;
-use grid::{Asked, Grid, RadiusFound, RadiusKm};
+use grid::{Grid, RadiusKm, Refusal};
+use search_rules::MostPopulous;
 use spacing::Spacing;
 
 // Question 7: room for the sums, and a word for each cell in both level buffers.
+#[tactic(auto, unfolding(crate::specs::Call::buffers_fit))]
 pub fn buffers_fit(grid: Grid, sums: &[u64], current: &[u64], following: &[u64]) -> bool
     ensures { result ≡ buffers_fit grid (buffers sums.now current.now following.now) }
 {
-    if !sums_fill::sums_fit(grid, sums) {
-        return false;
-    }
     let cells = grid::cells(grid);
-    if (current.len() as u64) < cells {
-        return false;
-    }
-    cells <= following.len() as u64
+    sums_fill::sums_fit(grid, sums)
+        && cells <= current.len() as u64
+        && cells <= following.len() as u64
 }
 
-// What the call's questions leave: its radius, or the number of the first that is answered no. Question 8 is the radius's constructor.
+// What the call's questions leave: its radius, or the first that is answered no. Question 8 is the radius's constructor.
 fn search_asked(
     grid: Grid,
     counts: &[u32],
@@ -34,27 +31,22 @@ fn search_asked(
     sums: &[u64],
     current: &[u64],
     following: &[u64],
-) -> Asked
-    ensures { result ≡ asked (first_no (search_questions
+) -> Result<RadiusKm, Refusal>
+    ensures { answer_of result ≡ decide (first_no (search_questions
         (lent_map grid counts.now angles.now cosines.now) spacing km
-        (buffers sums.now current.now following.now))) km }
+        (buffers sums.now current.now following.now))) (record { 0 = km }) }
 {
-    let refusal = map_questions::map_refusal(grid, counts, angles, cosines);
-    if refusal != 0 {
-        return Asked::Refused(refusal);
-    }
+    map_questions::map_asked(grid, counts, angles, cosines)?;
     if !buffers_fit(grid, sums, current, following) {
-        return Asked::Refused(7);
+        return Err(Refusal::Buffers);
     }
-    match RadiusKm::new(grid, km) {
-        RadiusFound::Beyond => Asked::Refused(8),
-        RadiusFound::Within(radius) => {
-            if !spacing::spacing_given(spacing) {
-                return Asked::Refused(10);
-            }
-            Asked::Radius(radius)
-        }
+    let Some(radius) = RadiusKm::new(grid, km) else {
+        return Err(Refusal::Circle);
+    };
+    if !spacing::spacing_given(spacing) {
+        return Err(Refusal::Spacing);
     }
+    Ok(radius)
 }
 
 // The search call: its questions first, in their order; a refusal changes nothing that was lent. Otherwise the sums are filled, also at
@@ -69,21 +61,16 @@ pub fn most_populous(
     sums: &mut [u64],
     current: &mut [u64],
     following: &mut [u64],
-) -> SearchAnswer
+) -> Result<MostPopulous, Refusal>
     ensures { search_gave result sums.new current.new following.new ≡ search_call
         (lent_map grid counts.now angles.now cosines.now) spacing km
         (buffers sums.old current.old following.old) }
 {
-    match search_asked(
+    let radius = search_asked(
         grid, counts, angles, cosines, km, spacing, sums, current, following,
-    ) {
-        Asked::Refused(number) => SearchAnswer::Refused(number),
-        Asked::Radius(radius) => {
-            sums_fill::fill_sums(grid, counts, sums);
-            let found = search::search_at(
-                grid, angles, cosines, sums, current, following, radius, spacing,
-            );
-            SearchAnswer::Found(found)
-        }
-    }
+    )?;
+    sums_fill::fill_sums(grid, counts, sums);
+    Ok(search::search_at(
+        grid, angles, cosines, sums, current, following, radius, spacing,
+    ))
 }

@@ -1,6 +1,6 @@
 -- The grid's tiles one after the other, as the code writes them: a row of tiles, and the rows.
-use Prim.Native.Nat.{ℕ, ◌+◌, ◌-◌, ◌≤◌, ◌<◌, min}
-use mathlib.Core.Path.{◌≡◌, ap, ◌∙◌}
+use Prim.Native.Nat.{ℕ, ◌+◌, ◌-◌, ◌≤◌, ◌<◌, min, max}
+use mathlib.Core.Path.{◌≡◌, refl, ap, ◌∙◌}
 use mathlib.Core.List.{List, [], ◌∷◌, ◌++◌}
 use native.Mathlib.Omega.{arith}
 use lib.ListN.{length, set, drop, length-append}
@@ -28,17 +28,17 @@ module _ (width spacing : ℕ) where
     row_start h = rw (row_all width spacing rows) (writing_start l at (row_whole rows) (rw (length_each word_of (tile_row width spacing rows)) h))
 
     module _ (l' : List ℕ) (next first : ℕ) (w : Writing l at (row_whole rows) l' next (row_left rows first)) where
-      more : (last : ℕ) → first < width → last ≡ min (first + (spacing - 1)) (width - 1)
-          → row_left rows first ≡ word_of (block rows (range first last)) ∷ row_left rows (last + 1)
-      unfolding each
-      more last h e = ap (each word_of) (row_cut width spacing rows first last h e)
+      module _ (last : ℕ) (h : first < width) (e : last ≡ min (first + (spacing - 1)) (width - 1)) where
+        more : (on : ℕ) → on ≡ first + max spacing 1 → row_left rows first ≡ word_of (block rows (range first last)) ∷ row_left rows on
+        unfolding each
+        more on k = ap (each word_of) (row_cut width spacing rows first last on h e k)
 
-      pub row_room : (last : ℕ) → first < width → last ≡ min (first + (spacing - 1)) (width - 1) → next < length l'
-      row_room last h e = omega (arith, writing_room w, ap (length {A = ℕ}) (more last h e))
+        pub row_room : next < length l'
+        row_room = omega (arith, writing_room w, ap (length {A = ℕ}) (more _ refl))
 
-      pub row_step : (last v : ℕ) → first < width → last ≡ min (first + (spacing - 1)) (width - 1) → v ≡ word_of (block rows (range first last))
-          → Writing l at (row_whole rows) (set l' next v) (next + 1) (row_left rows (last + 1))
-      row_step last v h e k = rw k (writing_step w (word_of (block rows (range first last))) (row_left rows (last + 1)) (more last h e))
+        pub row_step : (step v : ℕ) → step ≡ max spacing 1 → v ≡ word_of (block rows (range first last))
+            → Writing l at (row_whole rows) (set l' next v) (next + 1) (row_left rows (first + step))
+        row_step step v s k = rw k (writing_step w (word_of (block rows (range first last))) (row_left rows (first + step)) (more (first + step) (omega arith)))
 
       pub row_done : width ≤ first → Written l at (row_whole rows) l' next
       unfolding each
@@ -61,28 +61,29 @@ module _ (width height spacing : ℕ) where
     tiles_start h = writing_start l 0 tiles_whole (omega arith)
 
     module _ (l' : List ℕ) (next north : ℕ) (w : Writing l 0 tiles_whole l' next (tiles_left north)) where
-      row_more : (south : ℕ) → north < height → south ≡ min (north + (spacing - 1)) (height - 1)
-          → tiles_left north ≡ row_whole width spacing (range north south) ++ tiles_left (south + 1)
-      row_more south h e =
-          ap (each word_of) (tiles_cut width height spacing north south h e)
-          ∙ each_append word_of (tile_row width spacing (range north south)) (tiles_from width height spacing (south + 1))
+      module _ (south : ℕ) (h : north < height) (e : south ≡ min (north + (spacing - 1)) (height - 1)) where
+        row_more : (on : ℕ) → on ≡ north + max spacing 1 → tiles_left north ≡ row_whole width spacing (range north south) ++ tiles_left on
+        row_more on k =
+            ap (each word_of) (tiles_cut width height spacing north south on h e k)
+            ∙ each_append word_of (tile_row width spacing (range north south)) (tiles_from width height spacing on)
 
-      pub tiles_room : (south : ℕ) → north < height → south ≡ min (north + (spacing - 1)) (height - 1)
-          → next + length (tile_row width spacing (range north south)) ≤ length l'
-      tiles_room south h e =
-          let row = row_whole width spacing (range north south) in
-          omega (
-            arith,
-            writing_room w,
-            ap (length {A = ℕ}) (row_more south h e),
-            length-append row (tiles_left (south + 1)),
-            length_each word_of (tile_row width spacing (range north south)),
-          )
+        pub tiles_room : next + length (tile_row width spacing (range north south)) ≤ length l'
+        tiles_room =
+            let row = row_whole width spacing (range north south) in
+            let on = north + max spacing 1 in
+            omega (
+              arith,
+              writing_room w,
+              ap (length {A = ℕ}) (row_more on refl),
+              length-append row (tiles_left on),
+              length_each word_of (tile_row width spacing (range north south)),
+            )
 
-      pub tiles_step : (south : ℕ) (l'' : List ℕ) (end : ℕ) → north < height → south ≡ min (north + (spacing - 1)) (height - 1)
-          → Written l' next (row_whole width spacing (range north south)) l'' end → Writing l 0 tiles_whole l'' end (tiles_left (south + 1))
-      tiles_step south l'' end h e r =
-          rw r.place (writing_more w (row_whole width spacing (range north south)) (tiles_left (south + 1)) l'' (row_more south h e) r.words)
+        pub tiles_step : (step : ℕ) (l'' : List ℕ) (end : ℕ) → step ≡ max spacing 1 → Written l' next (row_whole width spacing (range north south)) l'' end
+            → Writing l 0 tiles_whole l'' end (tiles_left (north + step))
+        tiles_step step l'' end s r =
+            rw r.place
+            (writing_more w (row_whole width spacing (range north south)) (tiles_left (north + step)) l'' (row_more (north + step) (omega arith)) r.words)
 
       pub tiles_done : height ≤ north → Tiled l tiles_whole l' next
       unfolding each onto

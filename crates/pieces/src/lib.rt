@@ -15,26 +15,18 @@ fn halve_columns(block: Block, words: &mut [u64], at: usize) -> usize
     requires { CanHalve block words.old at }
     ensures { Written words.old at (each word_of (column_halves block)) words.new result }
 {
-    let north = block.north;
-    let south = block.south;
-    let first = block.first;
-    let last = block.last;
-    if first.0 == last.0 {
-        words[at] = blocks::to_word(block);
+    if block.first == block.last {
+        words[at] = u64::from(block);
         return at + 1;
     }
-    let mid = blocks::middle(first.0, last.0);
-    words[at] = blocks::to_word(Block {
-        north,
-        south,
-        first,
+    let mid = blocks::middle(block.first.0, block.last.0);
+    words[at] = u64::from(Block {
         last: Col(mid),
+        ..block
     });
-    words[at + 1] = blocks::to_word(Block {
-        north,
-        south,
+    words[at + 1] = u64::from(Block {
         first: Col(mid + 1),
-        last,
+        ..block
     });
     at + 2
 }
@@ -47,25 +39,17 @@ pub fn split(block: Block, words: &mut [u64], at: usize) -> usize
     if blocks::is_cell(block) {
         return at;
     }
-    let north = block.north;
-    let south = block.south;
-    let first = block.first;
-    let last = block.last;
-    if north.0 == south.0 {
+    if block.north == block.south {
         return halve_columns(block, words, at);
     }
-    let mid = blocks::middle(north.0, south.0);
+    let mid = blocks::middle(block.north.0, block.south.0);
     let upper = Block {
-        north,
         south: Row(mid),
-        first,
-        last,
+        ..block
     };
     let lower = Block {
         north: Row(mid + 1),
-        south,
-        first,
-        last,
+        ..block
     };
     let next = halve_columns(upper, words, at);
     halve_columns(lower, words, next)
@@ -75,16 +59,7 @@ pub fn split(block: Block, words: &mut [u64], at: usize) -> usize
 fn step_end(low: u32, step: u32, high: u32) -> u32
     ensures { result ≡ min (low + (step - 1)) high }
 {
-    if high <= low {
-        return high;
-    }
-    if high - low < step {
-        return high;
-    }
-    if step == 0 {
-        return low;
-    }
-    low + (step - 1)
+    low.saturating_add(step.saturating_sub(1)).min(high)
 }
 
 // A row of tiles from place at on, from the west; the place after them.
@@ -93,17 +68,15 @@ fn tile_row(width: u32, spacing: u32, north: u32, south: u32, words: &mut [u64],
     ensures { Written words.old at (each word_of (tile_row width spacing (range north south))) words.new result }
 {
     let mut next = at;
-    let mut first: u32 = 0;
-    while first < width {
+    for first in (0..width).step_by(spacing.max(1) as usize) {
         let last = step_end(first, spacing, width - 1);
-        words[next] = blocks::to_word(Block {
+        words[next] = u64::from(Block {
             north: Row(north),
             south: Row(south),
             first: Col(first),
             last: Col(last),
         });
         next += 1;
-        first = last + 1;
     }
     next
 }
@@ -116,11 +89,9 @@ pub fn tile(grid: Grid, spacing: u32, words: &mut [u64]) -> usize
     let width = grid.width;
     let height = grid.height;
     let mut next: usize = 0;
-    let mut north: u32 = 0;
-    while north < height {
+    for north in (0..height).step_by(spacing.max(1) as usize) {
         let south = step_end(north, spacing, height - 1);
         next = tile_row(width, spacing, north, south, words, next);
-        north = south + 1;
     }
     next
 }

@@ -1,4 +1,5 @@
 -- A search on any sheet, fair or not: its centre is a cell of the grid with the people of its circle, and its counts are small.
+use Rattle.std.proofs.Common.{Option, None, Some, IfSome, unwrap_or}
 use Prim.Native.Nat.{ℕ, zero, suc, ◌+◌, ◌^◌, ◌≤◌}
 use mathlib.Core.List.{List, []}
 use native.Mathlib.Omega.{arith}
@@ -18,10 +19,8 @@ use Rattle.spacing.specs.declared.Spacing.{Spacing}
 use Rattle.bounds.specs.Bound.{wide_km, bound}
 use Rattle.spacing.specs.Spacing.{spacing_of}
 use Rattle.candidates.specs.declared.Candidate.{Candidate}
-use Rattle.candidates.specs.declared.Held.{Held}
-use Rattle.candidates.specs.declared.Held.TheVariants.{Nobody, Best}
 use Rattle.candidates.specs.Candidate.{centre_of, candidate, north_west, prunes}
-use Rattle.candidates.proofs.Order.{OfHeld, better_of}
+use Rattle.candidates.proofs.Order.{better_of}
 use Rattle.tally.specs.declared.Tally.{Tally}
 use Rattle.levels.specs.Level.{pruned, evaluated, examine, started, joined, level}
 use Rattle.chunk_work.specs.Work.{Outcome, Work}
@@ -31,7 +30,7 @@ use Rattle.levels.proofs.Rule.{Kept, level_rule}
 use Rattle.levels.proofs.Counts.{next}
 use Rattle.levels.proofs.Finds.{Circle, probe_circle}
 use Rattle.search_rules.specs.declared.SearchResult.{SearchResult}
-use Rattle.search_rules.specs.Search.{searched, held_or, search}
+use Rattle.search_rules.specs.Search.{searched, search}
 use Rattle.search_rules.proofs.Levels.{after, levels_rule, Counted, counted_first, counted_next, no_fuel, Tallied}
 use Rattle.search_rules.proofs.Places.{tallied_few}
 use Rattle.search_rules.proofs.Search.{found, search_is, search_tallied}
@@ -44,16 +43,16 @@ use Rattle.probes.proofs.Kept.{SearchSound}
 module _ (m : Map) (km : Float) where
   -- what a level keeps of what is held
   abbrev HeldKept : ℕ → Outcome → Outcome → List Block → Type 0
-  HeldKept n o p bs = OfHeld (Circle m km) o.held → OfHeld (Circle m km) p.held
+  HeldKept n o p bs = IfSome o.held (Circle m km) → IfSome p.held (Circle m km)
 
   block_held : (w : Work) (b : Block) → Rectangle m.globe.grid b → HeldKept 0 w.outcome (examine m km w b).outcome []
   unfolding examine pruned evaluated
   block_held w b r h =
       let wide = wide_km m.globe km b in
-      cond_case (λ (v : Work). OfHeld (Circle m km) v.outcome.held) (prunes (bound m km b) w.outcome.held) (pruned w b wide)
-      (evaluated m km w b wide) (λ e. h) (λ e. better_of (Circle m km) w.outcome.held (Best (candidate m km (probe b))) h (probe_circle m km b r))
+      cond_case (λ (v : Work). IfSome v.outcome.held (Circle m km)) (prunes (bound m km b) w.outcome.held) (pruned w b wide)
+      (evaluated m km w b wide) (λ e. h) (λ e. better_of (Circle m km) w.outcome.held (Some (candidate m km (probe b))) h (probe_circle m km b r))
 
-  held_kept : (best : Held) → OfHeld (Circle m km) best → Kept m km best HeldKept
+  held_kept : (best : Option Candidate) → IfSome best (Circle m km) → Kept m km best HeldKept
   unfolding started joined
   held_kept best c =
       record {
@@ -66,7 +65,7 @@ module _ (m : Map) (km : Float) where
   -- before a level
   record Holding (n : ℕ) (s : SearchResult) (bs : List Block) : Type 0 where
     pub counted : Counted m.globe.grid n s.tally bs
-    pub circle : OfHeld (Circle m km) s.held
+    pub circle : IfSome s.held (Circle m km)
 
   holding_next : (n : ℕ) (s : SearchResult) (bs : List Block) → Holding (suc n) s bs → Holding n (after m km s bs) (next (level m km s.held bs))
   holding_next n s bs i =
@@ -75,12 +74,12 @@ module _ (m : Map) (km : Float) where
         circle = level_rule m km s.held HeldKept (held_kept s.held i.circle) bs (all_map (λ b t. t.rectangle) i.counted.small) i.circle;
       }
 
-  searched_circle : (spacing : ℕ) → 1 ≤ m.globe.grid.width → 1 ≤ m.globe.grid.height → OfHeld (Circle m km) (searched m km spacing).held
+  searched_circle : (spacing : ℕ) → 1 ≤ m.globe.grid.width → 1 ≤ m.globe.grid.height → IfSome (searched m km spacing).held (Circle m km)
   unfolding searched
   searched_circle spacing w h =
       let g = m.globe.grid in
       let (k, i) = levels_rule m km Holding holding_next (λ s b bs i. no_fuel g s.tally b bs i.counted) (g.width + g.height)
-      (record { held = Nobody; tally = no_tally }) (tile g spacing) (record { counted = counted_first g spacing w h; circle = tt }) in
+      (record { held = None; tally = no_tally }) (tile g spacing) (record { counted = counted_first g spacing w h; circle = tt }) in
       i.circle
 
 -- ---- a search
@@ -94,10 +93,9 @@ module _ (m : Map) (sizes : Sizes m.globe.grid) (exact : total m ≤ 2 ^ 53) whe
   circle_bounds : (km : Float) (c : Candidate) → Circle m km c → InBounds m.globe.grid c
   circle_bounds km c k = record { on = is_true _ k.on; exact = omega (arith, k.people, population_total m km (centre_of c)) }
 
-  held_bounds : (km : Float) (h : Held) → OfHeld (Circle m km) h → InBounds m.globe.grid (held_or (north_west 0) h)
-  unfolding held_or
-  held_bounds km Nobody c = corner_bounds m.globe.grid sizes 0 (omega arith)
-  held_bounds km (Best d) c = circle_bounds km d c
+  held_bounds : (km : Float) (h : Option Candidate) → IfSome h (Circle m km) → InBounds m.globe.grid (unwrap_or h (north_west 0))
+  held_bounds km None c = corner_bounds m.globe.grid sizes 0 (omega arith)
+  held_bounds km (Some d) c = circle_bounds km d c
 
   light : (t : Tally) → Tallied m.globe.grid t → stats_weight t.stats ≤ search_weight
   unfolding stats_weight

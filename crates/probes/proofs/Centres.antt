@@ -4,6 +4,7 @@ use mathlib.Core.Path.{◌≡◌, refl}
 use mathlib.Core.Bool.{true}
 use mathlib.Core.List.{List}
 use lib.Ieee.{Float}
+use Rattle.std.proofs.Common.{Option, Some, None}
 use Rattle.lists.specs.Elements.{AllOf, none, also}
 use Rattle.lists.proofs.Elements.{any_all}
 use Rattle.grid.specs.declared.Grid.{Grid}
@@ -13,8 +14,6 @@ use Rattle.sums.specs.Sums.{total}
 use Rattle.spacing.specs.declared.Spacing.{Spacing}
 use Rattle.candidates.specs.declared.Candidate.{Candidate}
 use Rattle.search_rules.specs.Search.{search}
-use Rattle.ledger.specs.declared.Got.{Got}
-use Rattle.ledger.specs.declared.Got.TheVariants.{Circle, Nothing}
 use Rattle.ledger.specs.declared.Ledger.{Ledger}
 use Rattle.ledger.specs.Ledger.{entry, get, ledger_in_order}
 use Rattle.ledger.specs.Requires.{InBounds}
@@ -30,7 +29,7 @@ use Rattle.probes.proofs.AnySheet.{corner_bounds, search_sound}
 
 -- the circles that the ledger holds and those that the probes found
 record CentresIn (g : Grid) (r : Run) : Type 0 where
-  pub held : (km : ℕ) (c : Candidate) → get r.ledger km ≡ Circle c → InBounds g c
+  pub held : (km : ℕ) (c : Candidate) → get r.ledger km ≡ Some c → InBounds g c
   pub found : AllOf (λ (p : Probe). InBounds g p.centre) r.trace
 
 module _ (m : Map) (sizes : Sizes m.globe.grid) (exact : total m ≤ 2 ^ 53) (spacing : Spacing) where
@@ -39,9 +38,9 @@ module _ (m : Map) (sizes : Sizes m.globe.grid) (exact : total m ≤ 2 ^ 53) (sp
   unfolding probed probed_with reused_at searched_at
   probed_in r km i = by (get r.ledger km) refl
     where
-      by : (f : Got) → get r.ledger km ≡ f → CentresIn m.globe.grid (probed_with m spacing r km f)
-      by (Circle c) e = record { held = i.held; found = also (i.held km c e) i.found }
-      by Nothing e =
+      by : (f : Option Candidate) → get r.ledger km ≡ f → CentresIn m.globe.grid (probed_with m spacing r km f)
+      by (Some c) e = record { held = i.held; found = also (i.held km c e) i.found }
+      by None e =
           let b = (search_sound m sizes exact spacing km).centre in
           record {
             held = got_put r.ledger (entry km (search m spacing km).centre) (λ k c. InBounds m.globe.grid c) b i.held;

@@ -1,9 +1,11 @@
 -- What every probe keeps of a run's state and ledger: the ledger in order with room, and counts that stay small.
+use Rattle.std.proofs.Common.{Option, None, Some}
 use Prim.Native.Nat.{ℕ, ◌+◌, ◌≤◌, ◌<◌}
 use mathlib.Core.Path.{◌≡◌, refl}
 use mathlib.Core.Bool.{Bool, true, false}
 use native.Mathlib.Omega.{arith}
 use lib.Ieee.{Float}
+use Rattle.std.proofs.Common.{Option, Some, None}
 use Rattle.grid.specs.declared.Grid.{Grid}
 use Rattle.grid.specs.Grid.{ceiling}
 use Rattle.grid.specs.Map.{Map}
@@ -14,8 +16,6 @@ use Rattle.tally.specs.Counts.{plus_stats}
 use Rattle.tally.specs.State.{stats_weight}
 use Rattle.search_rules.specs.declared.MostPopulous.{MostPopulous}
 use Rattle.search_rules.specs.Search.{search}
-use Rattle.ledger.specs.declared.Got.{Got}
-use Rattle.ledger.specs.declared.Got.TheVariants.{Circle, Nothing}
 use Rattle.ledger.specs.declared.Ledger.{Ledger}
 use Rattle.ledger.specs.Ledger.{capacity, entry, get, put, ledger_in_order}
 use Rattle.ledger.specs.Requires.{InBounds}
@@ -23,7 +23,6 @@ use Rattle.ledger.proofs.Order.{len_put_most, put_in_order}
 use Rattle.climb.specs.Climb.{most_radii}
 use Rattle.share.specs.Target.{within_slack}
 use Rattle.probes.specs.declared.Ambiguity.{Ambiguity}
-use Rattle.probes.specs.declared.Ambiguity.TheVariants as ambiguity-case
 use Rattle.probes.specs.declared.RunState.{RunState}
 use Rattle.probes.specs.declared.SmallestStats.{SmallestStats}
 use Rattle.probes.specs.Smallest.{widened}
@@ -35,11 +34,11 @@ plus_weight : (s t : SearchStats) → stats_weight (plus_stats s t) ≡ stats_we
 unfolding stats_weight plus_stats
 plus_weight s t = omega arith
 
-radii_after : (within : Bool) (a : Ambiguity) (km : ℕ) → radii_of (ambiguity_after within a km) ≤ radii_of a + 1
+radii_after : (within : Bool) (a : Option Ambiguity) (km : ℕ) → radii_of (ambiguity_after within a km) ≤ radii_of a + 1
 unfolding ambiguity_after widened radii_of
 radii_after false a km = omega arith
-radii_after true ambiguity-case.Absent km = omega arith
-radii_after true (ambiguity-case.Radii low high n) km = omega arith
+radii_after true None km = omega arith
+radii_after true (Some a) km = omega arith
 
 -- ---- the state
 
@@ -67,12 +66,12 @@ module _ (g : Grid) (persons slack : Float) (l : Ledger) (s : RunState) (km : �
   unfolding state_after state_with ledger_probed ledger_with noted reused_more evaluated_more
   in_order_next m spacing few h f = by (get l km) refl
     where
-      by : (q : Got) → get l km ≡ q
+      by : (q : Option Candidate) → get l km ≡ q
           → InOrder g (ledger_with m spacing l km q) (state_with m spacing persons slack s km q) × (probe_count (state_with m spacing persons slack s km q) ≡ probe_count s + 1)
-      by (Circle c) e =
+      by (Some c) e =
           let more : s.stats.radii_evaluated + (s.stats.radii_reused + 1) ≡ probe_count s + 1 = omega arith in
           (noted_in_order c l i.ledger (omega arith) (reused_more s.stats) more (omega arith), more)
-      by Nothing e =
+      by None e =
           let c = (search m spacing km).centre in
           let room : l.len + 1 ≤ capacity = omega (arith, i.room) in
           let more : s.stats.radii_evaluated + 1 + s.stats.radii_reused ≡ probe_count s + 1 = omega arith in

@@ -4,6 +4,7 @@ use mathlib.Core.Path.{◌≡◌}
 use mathlib.Core.List.{List}
 use native.Mathlib.Omega.{arith}
 use lib.Ieee.{Float}
+use Rattle.std.proofs.Common.{Some, None}
 use Rattle.grid.specs.declared.Grid.{Grid}
 use Rattle.grid.specs.Map.{Map}
 use Rattle.grid.proofs.Sizes.{grid_sizes}
@@ -16,7 +17,6 @@ use Rattle.levels.specs.Requires.{Ready}
 use Rattle.search_rules.specs.declared.MostPopulous.{MostPopulous}
 use Rattle.search_rules.specs.Search.{search}
 use Rattle.ledger.specs.declared.Entry.{Entry}
-use Rattle.ledger.specs.declared.Got.TheVariants.{Circle, Nothing}
 use Rattle.ledger.specs.declared.Ledger.{Ledger}
 use Rattle.ledger.specs.Ledger.{entry, get, put}
 use Rattle.ledger.specs.Requires.{InBounds, PutRoom}
@@ -42,7 +42,7 @@ module _ {g : Grid} {l : Ledger} {s : RunState} (i : InOrder g l s) (few : probe
   can_note : (c : Candidate) → InBounds g c → CanNote s c
   can_note c b = record { exact = b.exact; few = few; radii = i.radii }
 
-  pub can_reuse : (km : ℕ) {c : Candidate} → get l km ≡ Circle c → CanNote s c
+  pub can_reuse : (km : ℕ) {c : Candidate} → get l km ≡ Some c → CanNote s c
   can_reuse km {c} e = can_note c (got_in_bounds g l km c i.ledger e)
 
   pub can_put : (x : Entry) → PutRoom l x
@@ -57,11 +57,11 @@ module _ (m : Map) (spacing : Spacing) (persons slack : Float) (l : Ledger) (s :
     pub ledger : l' ≡ ledger_probed m spacing l km
     pub state : s' ≡ state_after m spacing persons slack s l km
 
-  pub after_reuse : {c : Candidate} → get l km ≡ Circle c → {l' : Ledger} → l' ≡ l → {s' : RunState} → s' ≡ noted persons slack s km c (reused_more s.stats) → ProbedTo l' s'
+  pub after_reuse : {c : Candidate} → get l km ≡ Some c → {l' : Ledger} → l' ≡ l → {s' : RunState} → s' ≡ noted persons slack s km c (reused_more s.stats) → ProbedTo l' s'
   unfolding state_after state_with ledger_probed ledger_with
   after_reuse e h f = record { ledger = rw e h; state = rw e f }
 
-  pub after_search : get l km ≡ Nothing → {f : MostPopulous} → f ≡ search m spacing km → {x : Entry} → x ≡ entry km f.centre → {l' : Ledger} → l' ≡ put l x
+  pub after_search : get l km ≡ None → {f : MostPopulous} → f ≡ search m spacing km → {x : Entry} → x ≡ entry km f.centre → {l' : Ledger} → l' ≡ put l x
       → {s' : RunState} → s' ≡ noted persons slack s km f.centre (evaluated_more s.stats f.tally.stats) → ProbedTo l' s'
   unfolding state_after state_with ledger_probed ledger_with
   after_search e k x h f = record { ledger = rw (e, ← k, ← x) h; state = rw (e, ← k) f }

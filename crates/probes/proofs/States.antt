@@ -1,4 +1,5 @@
 -- The state of a run against the definition's run: what it tracks of the probes.
+use Rattle.std.proofs.Common.{Option, Some}
 use Prim.Native.Nat.{ℕ, suc, ◌+◌}
 use mathlib.Core.Path.{◌≡◌, refl, sym, ap, ◌∙◌}
 use mathlib.Core.Bool.{Bool, true, false, cond, not, ◌&&◌}
@@ -9,6 +10,7 @@ use lib.Dec.{eqb}
 use lib.ListN.{length}
 use lib.Ieee.{Float}
 use borrow.Author.Tests.{eq-eqb}
+use Rattle.std.proofs.Common.{Option, Some, None}
 use Rattle.lists.specs.Counted.{one}
 use Rattle.lists.proofs.Bools.{cases, and_both, and_no, cond_true, cond_false}
 use Rattle.grid.specs.Map.{Map}
@@ -16,17 +18,15 @@ use Rattle.spacing.specs.declared.Spacing.{Spacing}
 use Rattle.tally.specs.declared.SearchStats.{SearchStats}
 use Rattle.tally.specs.Counts.{no_stats, plus_stats}
 use Rattle.search_rules.specs.Search.{search}
-use Rattle.ledger.specs.declared.Got.{Got}
-use Rattle.ledger.specs.declared.Got.TheVariants.{Circle, Nothing}
+use Rattle.candidates.specs.declared.Candidate.{Candidate}
 use Rattle.ledger.specs.declared.Ledger.{Ledger}
 use Rattle.ledger.specs.Ledger.{entry, get, put}
 use Rattle.share.specs.Target.{reaches}
 use Rattle.probes.specs.declared.RunState.{RunState}
-use Rattle.probes.specs.declared.ShortBelow.{ShortBelow}
-use Rattle.probes.specs.declared.ShortBelow.TheVariants as short-case
+use Rattle.probes.specs.declared.Witness.{Witness}
 use Rattle.probes.specs.declared.SmallestStats.{SmallestStats}
 use Rattle.probes.specs.Probes.{Probe, Run, reused_at, searched_at, probed_with, probed, latest_of, latest, how_many, evaluated_in, reused_in, stats_of}
-use Rattle.probes.specs.Smallest.{short_below_of, ambiguity}
+use Rattle.probes.specs.Smallest.{short_below_of, ambiguity, witness}
 use Rattle.probes.specs.State.{counts, run_begun, reused_more, evaluated_more, short_after, ambiguity_after, noted, state_with, state_after, ledger_with, ledger_probed}
 
 -- a run that has not begun
@@ -63,8 +63,8 @@ plus_none s = simp add-zero
 
 -- ---- the witness
 
-abbrev told : Probe → ShortBelow
-told p = short-case.Witness (record { 0 = p.km }) p.centre.population
+abbrev told : Probe → Option Witness
+told p = Some (witness p.km p.centre.population)
 
 module _ (persons : Float) (p : Probe) (ps : List Probe) where
   -- a probe that reached is no witness
@@ -96,7 +96,7 @@ module _ (persons slack : Float) (low : ℕ) (r : Run) (l : Ledger) (s : RunStat
   unfolding noted short_after ambiguity_after ambiguity
   noted_tracks p l' t e =
       let reached = reaches persons p.centre in
-      let at : ℕ → ShortBelow = λ km. short_below_of persons km (p ∷ r.trace) in
+      let at : ℕ → Option Witness = λ km. short_below_of persons km (p ∷ r.trace) in
       record {
         ledger = refl;
         short =
@@ -114,8 +114,8 @@ module _ (persons slack : Float) (low : ℕ) (r : Run) (l : Ledger) (s : RunStat
       let same : get l km ≡ get r.ledger km = ap (λ (h : Ledger). get h km) k.ledger in
       rw same (by (get r.ledger km))
     where
-      by : (f : Got) → Tracked persons slack low s km (probed_with m spacing r km f) (ledger_with m spacing l km f) (state_with m spacing persons slack s km f)
-      by (Circle c) =
+      by : (f : Option Candidate) → Tracked persons slack low s km (probed_with m spacing r km f) (ledger_with m spacing l km f) (state_with m spacing persons slack s km f)
+      by (Some c) =
           record {
             reached = refl;
             found = refl;
@@ -123,7 +123,7 @@ module _ (persons slack : Float) (low : ℕ) (r : Run) (l : Ledger) (s : RunStat
                 rw k.ledger
                 (noted_tracks (record { km = km; centre = c; reused = true; stats = no_stats }) r.ledger (reused_more s.stats) (rw (k.stats, add-zero, ← plus_none)));
           }
-      by Nothing =
+      by None =
           let f = search m spacing km in
           record {
             reached = refl;

@@ -5,14 +5,13 @@ use mathlib.Core.List.{List, [], ◌∷◌}
 use native.Mathlib.Omega.{arith}
 use lib.ListN.{length}
 use lib.Ieee.{Float}
+use Rattle.std.proofs.Common.{Option, Some, None}
 use Rattle.lists.specs.Lists.{each}
 use Rattle.lists.proofs.Folds.{length_each}
 use Rattle.lists.proofs.Elements.{AnyOf, any_of_each}
 use Rattle.grid.specs.Map.{Map}
 use Rattle.spacing.specs.declared.Spacing.{Spacing}
 use Rattle.candidates.specs.declared.Candidate.{Candidate}
-use Rattle.ledger.specs.declared.Got.{Got}
-use Rattle.ledger.specs.declared.Got.TheVariants.{Circle, Nothing}
 use Rattle.ledger.specs.declared.Ledger.{Ledger}
 use Rattle.ledger.specs.Ledger.{get}
 use Rattle.climb.specs.Climb.{most_radii, Ended, last_radius, climb_radii}
@@ -35,9 +34,9 @@ module _ (m : Map) (spacing : Spacing) where
   unfolding probed probed_with reused_at searched_at latest latest_of each
   probed_adds r km = by (get r.ledger km)
     where
-      by : (f : Got) → each finding_of (probed_with m spacing r km f).trace ≡ record { km = km; found = latest (probed_with m spacing r km f) } ∷ each finding_of r.trace
-      by (Circle c) = refl
-      by Nothing = refl
+      by : (f : Option Candidate) → each finding_of (probed_with m spacing r km f).trace ≡ record { km = km; found = latest (probed_with m spacing r km f) } ∷ each finding_of r.trace
+      by (Some c) = refl
+      by None = refl
 
   pub trace_findings : (l : Ledger) (kms : List ℕ)
       → findings (probed m spacing) latest (starting l) kms ≡ each finding_of (after (probed m spacing) latest (starting l) kms).trace

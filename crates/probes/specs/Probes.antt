@@ -1,5 +1,5 @@
 -- The probes of a smallest-radius call: each taken from the ledger or searched and put, in a trace that every count is read from.
-use Rattle.std.specs.Prelude.{ℕ, ◌+◌, Bool, true, false, not, List, [], ◌∷◌, Float}
+use Rattle.std.specs.Prelude.{ℕ, ◌+◌, Bool, true, false, not, List, [], ◌∷◌, Float, Option, Some, None}
 use Rattle.lists.specs.Counted.{one}
 use Rattle.grid.specs.Map.{Map}
 use Rattle.sums.specs.Sums.{total}
@@ -10,8 +10,6 @@ use Rattle.tally.specs.declared.SearchStats.{SearchStats}
 use Rattle.tally.specs.Counts.{no_stats, plus_stats}
 use Rattle.search_rules.specs.declared.MostPopulous.{MostPopulous}
 use Rattle.search_rules.specs.Search.{search}
-use Rattle.ledger.specs.declared.Got.{Got}
-use Rattle.ledger.specs.declared.Got.TheVariants.{Circle, Nothing}
 use Rattle.ledger.specs.declared.Ledger.{Ledger}
 use Rattle.ledger.specs.Ledger.{entry, get, put}
 use Rattle.climb.specs.Climb.{Ended, last_radius, climb, climb_radii}
@@ -50,9 +48,9 @@ searched_at r km f =
     }
 
 -- the ledger's entry, or else a search
-unfoldable pub probed_with : Map → Spacing → Run → ℕ → Got → Run
-probed_with m spacing r km (Circle c) = reused_at r km c
-probed_with m spacing r km Nothing = searched_at r km (search m spacing km)
+unfoldable pub probed_with : Map → Spacing → Run → ℕ → Option Candidate → Run
+probed_with m spacing r km (Some c) = reused_at r km c
+probed_with m spacing r km None = searched_at r km (search m spacing km)
 
 -- one probe more at a kilometre
 unfoldable pub probed : Map → Spacing → Run → ℕ → Run

@@ -1,5 +1,5 @@
 -- The smallest radius: the fields of its answer, from the end of a run.
-use Rattle.std.specs.Prelude.{ℕ, ◌+◌, min, Bool, true, not, cond, ◌&&◌, List, [], ◌∷◌, eqb, Float}
+use Rattle.std.specs.Prelude.{ℕ, ◌+◌, min, Bool, true, not, cond, ◌&&◌, List, [], ◌∷◌, eqb, Float, Option, None, Some}
 use Rattle.lists.specs.Counted.{max}
 use Rattle.floats.specs.Binary.{whole}
 use Rattle.grid.specs.Map.{Map}
@@ -13,27 +13,33 @@ use Rattle.ledger.specs.declared.Ledger.{Ledger}
 use Rattle.climb.specs.Climb.{Ended, all_short, reached_at}
 use Rattle.share.specs.Target.{target_of, reaches, share_of, predicate_slack_persons, within_slack}
 use Rattle.probes.specs.declared.Ambiguity.{Ambiguity}
-use Rattle.probes.specs.declared.Ambiguity.TheVariants as ambiguity-case
-use Rattle.probes.specs.declared.ShortBelow.{ShortBelow}
-use Rattle.probes.specs.declared.ShortBelow.TheVariants as short-case
+use Rattle.probes.specs.declared.Witness.{Witness}
 use Rattle.probes.specs.declared.Smallest.{Smallest}
 use Rattle.probes.specs.Probes.{target_persons, Probe, Run, smallest_run, evaluated_in, reused_in, stats_of}
 
+-- a probe that fell short, by its kilometre and its population
+abbrev pub witness : ℕ → ℕ → Witness
+witness km population = record { km = record { 0 = km }; population = population }
+
 -- the short witness, a short probe right below the answer, if there was one: one further down does not tell that the answer is the smallest
-unfoldable pub short_below_of : Float → ℕ → List Probe → ShortBelow
-short_below_of persons km [] = short-case.Absent
+unfoldable pub short_below_of : Float → ℕ → List Probe → Option Witness
+short_below_of persons km [] = None
 short_below_of persons km (p ∷ ps) =
     let rest = short_below_of persons km ps in
-    cond (eqb (p.km + 1) km && not (reaches persons p.centre)) (short-case.Witness (record { 0 = p.km }) p.centre.population) rest
+    cond (eqb (p.km + 1) km && not (reaches persons p.centre)) (Some (witness p.km p.centre.population)) rest
+
+-- so many radii, from the lowest kilometre to the highest
+abbrev pub spread : ℕ → ℕ → ℕ → Ambiguity
+spread lowest highest radii = record { lowest_km = record { 0 = lowest }; highest_km = record { 0 = highest }; radii = radii }
 
 -- one radius more within the slack
-unfoldable pub widened : Ambiguity → ℕ → Ambiguity
-widened ambiguity-case.Absent km = ambiguity-case.Radii (record { 0 = km }) (record { 0 = km }) 1
-widened (ambiguity-case.Radii low high n) km = ambiguity-case.Radii (record { 0 = min low.0 km }) (record { 0 = max high.0 km }) (n + 1)
+unfoldable pub widened : Option Ambiguity → ℕ → Option Ambiguity
+widened None km = Some (spread km km 1)
+widened (Some a) km = Some (spread (min a.lowest_km.0 km) (max a.highest_km.0 km) (a.radii + 1))
 
 -- of the probes within the slack the smallest and the largest kilometre and how many they are, if there are any
-unfoldable pub ambiguity : Float → Float → List Probe → Ambiguity
-ambiguity persons slack [] = ambiguity-case.Absent
+unfoldable pub ambiguity : Float → Float → List Probe → Option Ambiguity
+ambiguity persons slack [] = None
 ambiguity persons slack (p ∷ ps) =
     let rest = ambiguity persons slack ps in
     let wider = widened rest p.km in

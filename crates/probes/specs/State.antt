@@ -1,5 +1,5 @@
 -- How the code sees a run: what of the probes so far the answer needs, what a probe adds to it and keeps of it, and the answer at the end.
-use Rattle.std.specs.Prelude.{ℕ, ◌+◌, ◌*◌, ◌^◌, ◌≤◌, Bool, true, false, cond, List, ◌≡◌, Float}
+use Rattle.std.specs.Prelude.{ℕ, ◌+◌, ◌*◌, ◌^◌, ◌≤◌, Bool, true, false, cond, List, ◌≡◌, Float, Option, None, Some}
 use Rattle.floats.specs.Binary.{whole}
 use Rattle.grid.specs.Map.{Map, Globe}
 use Rattle.grid.specs.declared.Grid.{Grid}
@@ -13,24 +13,20 @@ use Rattle.tally.specs.declared.SearchStats.{SearchStats}
 use Rattle.tally.specs.Counts.{no_stats, plus_stats}
 use Rattle.tally.specs.State.{stats_weight}
 use Rattle.search_rules.specs.Search.{search}
-use Rattle.ledger.specs.declared.Got.{Got}
-use Rattle.ledger.specs.declared.Got.TheVariants.{Circle, Nothing}
 use Rattle.ledger.specs.declared.Ledger.{Ledger}
 use Rattle.ledger.specs.Ledger.{entry, get, put, capacity, ledger_in_order}
 use Rattle.climb.specs.Climb.{most_radii, Ended, all_short, reached_at}
 use Rattle.share.specs.Target.{reaches, share_of, predicate_slack_persons, within_slack}
 use Rattle.share.specs.declared.Target.{Target}
 use Rattle.probes.specs.declared.Ambiguity.{Ambiguity}
-use Rattle.probes.specs.declared.Ambiguity.TheVariants as ambiguity-case
-use Rattle.probes.specs.declared.ShortBelow.{ShortBelow}
-use Rattle.probes.specs.declared.ShortBelow.TheVariants as short-case
+use Rattle.probes.specs.declared.Witness.{Witness}
 use Rattle.probes.specs.declared.Smallest.{Smallest}
 use Rattle.probes.specs.declared.RunState.{RunState}
 use Rattle.probes.specs.declared.SmallestStats.{SmallestStats}
 use Rattle.probes.specs.declared.RunEnd.{RunEnd}
 use Rattle.probes.specs.declared.Ran.{Ran}
 use Rattle.probes.specs.Probes.{target_persons, Probe, Run, smallest_run, evaluated_in, reused_in, stats_of}
-use Rattle.probes.specs.Smallest.{short_below_of, widened, ambiguity}
+use Rattle.probes.specs.Smallest.{short_below_of, widened, ambiguity, witness}
 
 -- ---- the state before and after a probe
 
@@ -44,8 +40,8 @@ run_begun people =
     record {
       reached = false;
       found = north_west people;
-      short = short-case.Absent;
-      ambiguity = ambiguity-case.Absent;
+      short = None;
+      ambiguity = None;
       stats = counts 0 0 no_stats;
     }
 
@@ -58,11 +54,11 @@ unfoldable pub evaluated_more : SmallestStats → SearchStats → SmallestStats
 evaluated_more t s = counts (t.radii_evaluated + 1) t.radii_reused (plus_stats t.searched s)
 
 -- a probe that fell short is the witness, until another does
-unfoldable pub short_after : Bool → ShortBelow → ℕ → ℕ → ShortBelow
-short_after reached short km population = cond reached short (short-case.Witness (record { 0 = km }) population)
+unfoldable pub short_after : Bool → Option Witness → ℕ → ℕ → Option Witness
+short_after reached short km population = cond reached short (Some (witness km population))
 
 -- a probe within the slack widens the ambiguity
-unfoldable pub ambiguity_after : Bool → Ambiguity → ℕ → Ambiguity
+unfoldable pub ambiguity_after : Bool → Option Ambiguity → ℕ → Option Ambiguity
 ambiguity_after within a km = let wider = widened a km in cond within wider a
 
 -- a centre was found at a kilometre; the counts are those after it
@@ -77,9 +73,9 @@ noted persons slack s km c t =
     }
 
 -- after a probe, by the ledger's entry or else by a search
-unfoldable pub state_with : Map → Spacing → Float → Float → RunState → ℕ → Got → RunState
-state_with m spacing persons slack s km (Circle c) = noted persons slack s km c (reused_more s.stats)
-state_with m spacing persons slack s km Nothing =
+unfoldable pub state_with : Map → Spacing → Float → Float → RunState → ℕ → Option Candidate → RunState
+state_with m spacing persons slack s km (Some c) = noted persons slack s km c (reused_more s.stats)
+state_with m spacing persons slack s km None =
     let f = search m spacing km in
     noted persons slack s km f.centre (evaluated_more s.stats f.tally.stats)
 
@@ -88,9 +84,9 @@ unfoldable pub state_after : Map → Spacing → Float → Float → RunState �
 state_after m spacing persons slack s l km = state_with m spacing persons slack s km (get l km)
 
 -- the ledger beside it: an entry leaves it, a search is put
-unfoldable pub ledger_with : Map → Spacing → Ledger → ℕ → Got → Ledger
-ledger_with m spacing l km (Circle c) = l
-ledger_with m spacing l km Nothing = put l (entry km (search m spacing km).centre)
+unfoldable pub ledger_with : Map → Spacing → Ledger → ℕ → Option Candidate → Ledger
+ledger_with m spacing l km (Some c) = l
+ledger_with m spacing l km None = put l (entry km (search m spacing km).centre)
 
 -- the ledger after a probe at a kilometre
 unfoldable pub ledger_probed : Map → Spacing → Ledger → ℕ → Ledger
@@ -103,9 +99,9 @@ abbrev pub probe_count : RunState → ℕ
 probe_count s = s.stats.radii_evaluated + s.stats.radii_reused
 
 -- how many radii an ambiguity counts
-unfoldable pub radii_of : Ambiguity → ℕ
-radii_of ambiguity-case.Absent = 0
-radii_of (ambiguity-case.Radii low high n) = n
+unfoldable pub radii_of : Option Ambiguity → ℕ
+radii_of None = 0
+radii_of (Some a) = a.radii
 
 -- the most that the counts of one search come to
 abbrev pub search_weight : ℕ

@@ -8,22 +8,19 @@ use ledger::Ledger;
 use share::Target;
 use tally::SearchStats;
 
-// The short witness: the short probe right below the answer, if there was one.
+// A short witness: a probe that fell short.
 #[derive(Clone, Copy)]
-pub enum ShortBelow {
-    Witness { km: RadiusKm, population: u64 },
-    Absent,
+pub struct Witness {
+    pub km: RadiusKm,
+    pub population: u64,
 }
 
 // The probes within the slack: their smallest and largest kilometre, and how many they are.
 #[derive(Clone, Copy)]
-pub enum Ambiguity {
-    Radii {
-        lowest_km: RadiusKm,
-        highest_km: RadiusKm,
-        radii: u32,
-    },
-    Absent,
+pub struct Ambiguity {
+    pub lowest_km: RadiusKm,
+    pub highest_km: RadiusKm,
+    pub radii: u32,
 }
 
 // How many radii were searched and how many the ledger held, and the counts of the searches.
@@ -34,17 +31,18 @@ pub struct SmallestStats {
     pub searched: SearchStats,
 }
 
-// The smallest radius whose fullest circle reaches the target, with all that tells how sure it is.
+// The smallest radius whose fullest circle reaches the target, with all that tells how sure it is. Its witness is the short probe right
+// below it, if there was one.
 #[derive(Clone, Copy)]
 pub struct Smallest {
     pub radius_km: RadiusKm,
     pub centre: Candidate,
     pub target: Target,
     pub share_achieved: f64,
-    pub short_below: ShortBelow,
+    pub short_below: Option<Witness>,
     pub covers_whole_grid: bool,
     pub predicate_slack_persons: f64,
-    pub ambiguity: Ambiguity,
+    pub ambiguity: Option<Ambiguity>,
     pub tolerance_persons: f64,
     pub stats: SmallestStats,
 }
@@ -55,8 +53,8 @@ pub struct Smallest {
 pub struct RunState {
     pub reached: bool,
     pub found: Candidate,
-    pub short: ShortBelow,
-    pub ambiguity: Ambiguity,
+    pub short: Option<Witness>,
+    pub ambiguity: Option<Ambiguity>,
     pub stats: SmallestStats,
 }
 
@@ -66,8 +64,8 @@ pub struct RunEnd {
     pub radius_km: RadiusKm,
     pub reached: bool,
     pub centre: Candidate,
-    pub short_below: ShortBelow,
-    pub ambiguity: Ambiguity,
+    pub short_below: Option<Witness>,
+    pub ambiguity: Option<Ambiguity>,
     pub stats: SmallestStats,
 }
 

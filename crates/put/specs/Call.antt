@@ -1,12 +1,12 @@
 -- The put call.
-use Rattle.std.specs.Prelude.{◌&&◌, List, [], ◌∷◌, ◌++◌}
+use Rattle.std.specs.Prelude.{Result, ◌&&◌, List, [], ◌∷◌, ◌++◌}
 use Rattle.grid.specs.declared.Grid.{Grid}
-use Rattle.grid.specs.Answer.{Question, question, first_no, Answer, answered, refused, decide, after}
+use Rattle.grid.specs.declared.refusal.Refusal.{Refusal}
+use Rattle.grid.specs.Answer.{Question, question, first_no, Answer, decide, after}
+use Rattle.grid.specs.Refusal.{answer_of}
 use Rattle.grid.specs.Questions.{grid_questions}
 use Rattle.ledger.specs.declared.Entry.{Entry}
 use Rattle.ledger.specs.declared.Ledger.{Ledger}
-use Rattle.put.specs.declared.PutAnswer.{PutAnswer}
-use Rattle.put.specs.declared.PutAnswer.TheVariants as put-answer
 use Rattle.ledger.specs.Ledger.{get, put, entry_in_bounds, ledger_in_order, place_for}
 
 unfoldable pub put_questions : Grid → Ledger → Entry → List Question
@@ -23,11 +23,6 @@ put_call g l x =
     let answer = decide (first_no (put_questions g l x)) tt in
     record { answer = answer; ledger = after answer (put l x) l }
 
--- the specification's number for each case of the answer
-unfoldable pub put_answer : PutAnswer → Answer (Unit {0})
-put_answer put-answer.Done = answered tt
-put_answer (put-answer.Refused n) = refused n
-
 -- what a put has given: its answer, and the ledger as it is then
-abbrev pub put_gave : PutAnswer → Ledger → PutOutcome
-put_gave answer l = record { answer = put_answer answer; ledger = l }
+abbrev pub put_gave : Result (Unit {0}) Refusal → Ledger → PutOutcome
+put_gave answer l = record { answer = answer_of answer; ledger = l }

@@ -1,53 +1,44 @@
 // The put call: its questions in order, then the put; by value, and over a ledger that is lent.
 ghost use Rattle.std.specs.Prelude.{◌≡◌};
-ghost use Rattle.grid.specs.Answer.{first_no};
+ghost use Rattle.grid.specs.Answer.{first_no, decide};
+ghost use Rattle.grid.specs.Refusal.{answer_of};
 ghost use Rattle.put.specs.Call.{put_questions, put_call, put_gave};
 
-use crate::{PutAnswer, PutResult};
-use grid::Grid;
+use crate::PutResult;
+use grid::{Grid, Refusal};
 use ledger::{Entry, Ledger};
 
-// The number of the first of the questions 1 to 3, 11 and 12 that is answered no, or 0.
-fn put_refusal(grid: Grid, ledger: Ledger, entry: Entry) -> u32
-    ensures { result ≡ first_no (put_questions grid ledger entry) }
+// The first of the questions 1 to 3, 11 and 12 that is answered no.
+fn put_asked(grid: Grid, ledger: Ledger, entry: Entry) -> Result<(), Refusal>
+    ensures { answer_of result ≡ decide (first_no (put_questions grid ledger entry)) tt }
 {
-    let refusal = grid_questions::grid_refusal(grid);
-    if 0 < refusal {
-        return refusal;
+    grid_questions::grid_asked(grid)?;
+    let in_order = ledger_questions::ledger_in_order(grid, ledger);
+    if !(in_order && ledger_questions::entry_in_bounds(grid, entry)) {
+        return Err(Refusal::LedgerOrder);
     }
-    if !ledger_questions::ledger_in_order(grid, ledger) {
-        return 11;
+    if !ledger_questions::place_for(ledger, entry.km) {
+        return Err(Refusal::Places);
     }
-    if !ledger_questions::entry_in_bounds(grid, entry) {
-        return 11;
-    }
-    let km = entry.km;
-    if !ledger_questions::place_for(ledger, km) {
-        return 12;
-    }
-    0
+    Ok(())
 }
 
 // The put by value: a refusal gives the ledger back as it came.
 pub fn put_entry(grid: Grid, ledger: Ledger, entry: Entry) -> PutResult
     ensures { put_gave result.answer result.ledger ≡ put_call grid ledger entry }
 {
-    let refusal = put_refusal(grid, ledger, entry);
-    if 0 < refusal {
-        return PutResult {
-            answer: PutAnswer::Refused(refusal),
-            ledger,
-        };
+    let answer = put_asked(grid, ledger, entry);
+    if answer.is_err() {
+        return PutResult { answer, ledger };
     }
-    let next = ledger_store::put(ledger, entry);
     PutResult {
-        answer: PutAnswer::Done,
-        ledger: next,
+        answer,
+        ledger: ledger_store::put(ledger, entry),
     }
 }
 
 // The put that the game calls: it lends its ledger, and the call changes it.
-pub fn put_lent(ledger: &mut Ledger, grid: Grid, entry: Entry) -> PutAnswer
+pub fn put_lent(ledger: &mut Ledger, grid: Grid, entry: Entry) -> Result<(), Refusal>
     ensures { put_gave result ledger.new ≡ put_call grid ledger.old entry }
 {
     let before = *ledger;

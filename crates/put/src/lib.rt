@@ -4,18 +4,12 @@
 mod call;
 
 pub use call::{put_by_lending, put_entry, put_lent};
+use grid::Refusal;
 use ledger::Ledger;
 
-// Put, or refused with the number of the first question that was answered no.
-#[derive(Clone, Copy)]
-pub enum PutAnswer {
-    Done,
-    Refused(u32),
-}
-
-// A put's answer beside the ledger after it: an enum cannot hold the places.
+// A put's answer beside the ledger after it.
 #[derive(Clone, Copy)]
 pub struct PutResult {
-    pub answer: PutAnswer,
+    pub answer: Result<(), Refusal>,
     pub ledger: Ledger,
 }

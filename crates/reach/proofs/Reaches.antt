@@ -28,7 +28,7 @@ inside s c r limit k = le (angle s c r k) limit
 
 module _ (s : Globe) (q : InOrder s) (c : ℕ) (C : c < s.grid.height) (limit : Float) where
   module _ (r : ℕ) (R : r < s.grid.height) where
-    inside_first : (i j : ℕ) → i ≤ j → j < closing s.grid + 1 → inside s c r limit j ≡ true → inside s c r limit i ≡ true
+    pub inside_first : (i j : ℕ) → i ≤ j → j < closing s.grid + 1 → inside s c r limit j ≡ true → inside s c r limit i ≡ true
     unfolding inside
     inside_first i j h l e = offsets_first s q c C r R limit i j h (omega arith) e
 

@@ -1,5 +1,5 @@
 // The rows of a circle: how many offsets of each lie within an angle, from the centre row outward.
-ghost use Rattle.std.specs.Prelude.{◌≡◌, ◌+◌, ◌-◌, ◌≤◌, ◌<◌, min, length};
+ghost use Rattle.std.specs.Prelude.{◌≡◌, ◌+◌, ◌-◌, ◌≤◌, ◌<◌, length};
 ghost use Rattle.std.specs.Float.Ieee.{le};
 ghost use Rattle.reach.specs.Reach.{reach, row_places};
 ghost use Rattle.grid.specs.Map.{sheet_of};
@@ -21,17 +21,8 @@ pub fn reach_by_halves(grid: Grid, angles: &[f64], centre: Row, row: Row, limit:
     ensures { result ≡ reach (sheet_of grid angles.now) centre row limit }
 {
     let first = grid::sheet_index(grid, centre, row, 0);
-    let mut low: usize = 0;
-    let mut high = grid.width as usize / 2 + 1;
-    while low < high {
-        let middle = low + (high - low) / 2;
-        if within(angles[first + middle], limit) {
-            low = middle + 1;
-        } else {
-            high = middle;
-        }
-    }
-    low as u8
+    let end = first + grid.width as usize / 2 + 1;
+    angles[first..end].partition_point(|angle| within(*angle, limit)) as u8
 }
 
 // On from an offset, past all that are within, up to an end.
@@ -40,15 +31,12 @@ fn grown(angles: &[f64], first: usize, limit: f64, from: usize, end: usize) -> u
     requires end_in_bounds { first + end ≤ length angles.now }
     ensures { Edge (passes angles.now first limit) from end result }
 {
-    let mut n = from;
-    while n < end {
-        if within(angles[first + n], limit) {
-            n += 1;
-        } else {
+    for n in from..end {
+        if !within(angles[first + n], limit) {
             return n;
         }
     }
-    n
+    end
 }
 
 // Back from an offset, past all that are not within.
@@ -56,20 +44,12 @@ fn shrunk(angles: &[f64], first: usize, limit: f64, from: usize) -> usize
     requires { first + from ≤ length angles.now }
     ensures { Edge (passes angles.now first limit) 0 from result }
 {
-    let mut n = from;
-    while 0 < n {
-        if within(angles[first + (n - 1)], limit) {
-            return n;
+    for n in (0..from).rev() {
+        if within(angles[first + n], limit) {
+            return n + 1;
         }
-        n -= 1;
     }
-    n
-}
-
-fn lesser(a: usize, b: usize) -> usize
-    ensures { result ≡ min a b }
-{
-    if a < b { a } else { b }
+    0
 }
 
 // How many offsets of a row lie within an angle: all, where the last is, as in most rows of a very large circle; else found step by step
@@ -84,7 +64,7 @@ fn reach_of(grid: Grid, angles: &[f64], centre: Row, row: Row, limit: f64, guess
     if within(angles[first + last], limit) {
         return last as u8 + 1;
     }
-    let from = lesser(guess as usize, last);
+    let from = last.min(guess as usize);
     if within(angles[first + from], limit) {
         return grown(angles, first, limit, from + 1, last) as u8;
     }
@@ -92,6 +72,7 @@ fn reach_of(grid: Grid, angles: &[f64], centre: Row, row: Row, limit: f64, guess
 }
 
 // The reaches of the rows north of the centre row, up to the first row missed. Gives the northernmost row touched.
+#[tactic(auto, using(crate::proofs::Walks::filled_none))]
 pub fn walk_north(
     grid: Grid,
     angles: &[f64],
@@ -104,20 +85,20 @@ pub fn walk_north(
     requires reaches_len { length reaches.old ≡ row_places }
     ensures { NorthWalked (sheet_of grid angles.now) centre limit reaches.old reaches.new result }
 {
-    let mut north = centre.0;
-    while 0 < north {
-        let n = reach_of(grid, angles, centre, Row(north - 1), limit, guess);
+    for row in (0..centre.0).rev() {
+        let n = reach_of(grid, angles, centre, Row(row), limit, guess);
         if n == 0 {
-            return north;
+            return row + 1;
         }
-        north -= 1;
-        reaches[north as usize] = n;
+        reaches[row as usize] = n;
         guess = n;
     }
-    north
+    0
 }
 
-// The reaches of the centre row and those south of it, up to the first row missed, whose number it gives.
+// The reaches of the centre row and those south of it, up to the first row missed, whose number it gives. A function of its own beside
+// `walk_north`: one over any iterator of rows would be asked for each walk's end, and for the band that its rows make, again.
+#[tactic(auto, using(crate::proofs::Walks::filled_none))]
 pub fn walk_south(
     grid: Grid,
     angles: &[f64],
@@ -130,15 +111,13 @@ pub fn walk_south(
     requires reaches_len { length reaches.old ≡ row_places }
     ensures { SouthWalked (sheet_of grid angles.now) centre limit reaches.old reaches.new result }
 {
-    let mut end = centre.0;
-    while end < grid.height {
-        let n = reach_of(grid, angles, centre, Row(end), limit, guess);
+    for row in centre.0..grid.height {
+        let n = reach_of(grid, angles, centre, Row(row), limit, guess);
         if n == 0 {
-            return end;
+            return row;
         }
-        reaches[end as usize] = n;
+        reaches[row as usize] = n;
         guess = n;
-        end += 1;
     }
-    end
+    grid.height
 }

@@ -1,5 +1,5 @@
 -- The nine marked facts about the ring of four cells: SPECIFICATION, section 9.4.
-use Rattle.std.specs.Prelude.{List, ◌≡◌, Float}
+use Rattle.std.specs.Prelude.{List, ◌≡◌, Float, Option, None, Some}
 use Rattle.floats.specs.Binary.{whole}
 use Rattle.grid.specs.Map.{Map}
 use Rattle.grid.specs.Answer.{Answer, answered, refused}
@@ -10,12 +10,11 @@ use Rattle.ledger.specs.declared.Entry.{Entry}
 use Rattle.ledger.specs.Ledger.{no_entries}
 use Rattle.probes.specs.declared.Smallest.{Smallest}
 use Rattle.probes.specs.declared.Ambiguity.{Ambiguity}
-use Rattle.probes.specs.declared.Ambiguity.TheVariants as ambiguity-case
-use Rattle.probes.specs.declared.ShortBelow.TheVariants as short-case
 use Rattle.smallest_rules.specs.Call.{smallest_call}
 use Rattle.ring.specs.Ring.{ring, empty_ring}
 use Rattle.ring.specs.Searches.{ring_buffers, RingSearches}
 use Rattle.ring.specs.Radii.{LeastValues, values_of, half, short_at}
+use Rattle.probes.specs.Smallest.{spread}
 
 -- a smallest-radius call with spacing 4 from a fresh ledger, whose places may hold anything
 unfoldable pub ring_smallest : Map → Float → List Entry → Answer Smallest
@@ -27,7 +26,7 @@ least_values (refused n) = refused n
 least_values (answered s) = answered (values_of s)
 
 -- the ambiguity of an answer
-unfoldable pub ambiguity_of : Answer Smallest → Answer Ambiguity
+unfoldable pub ambiguity_of : Answer Smallest → Answer (Option Ambiguity)
 ambiguity_of (refused n) = refused n
 ambiguity_of (answered s) = answered s.ambiguity
 
@@ -46,9 +45,9 @@ pub record MarkedFacts : Type 0 where
   -- (9) share 0.5 of nobody: 0 km without a witness, after 2 searches; both radii, 0 and 1, are within the slack
   pub nobody_line : (places : List Entry)
       → least_values (ring_smallest empty_ring half places)
-      ≡ answered (record { km = 0; centre = candidate_of (cell 0 0) 0; short = short-case.Absent; evaluated = 2; reused = 0 })
+      ≡ answered (record { km = 0; centre = candidate_of (cell 0 0) 0; short = None; evaluated = 2; reused = 0 })
   pub nobody_ambiguity : (places : List Entry)
-      → ambiguity_of (ring_smallest empty_ring half places) ≡ answered (ambiguity-case.Radii (record { 0 = 0 }) (record { 0 = 1 }) 2)
+      → ambiguity_of (ring_smallest empty_ring half places) ≡ answered (Some (spread 0 1 2))
 
 -- opens all of the above, for facts that are computed
 unfoldable pub open_ring_calls : Unit {0}

@@ -1,5 +1,5 @@
 -- The ring's smallest radii: what the marked facts (1), (8) and (9) of SPECIFICATION, section 9.4, say, once the call's questions are answered.
-use Rattle.std.specs.Prelude.{ℕ, false, List, ◌≡◌, Float, negsuc}
+use Rattle.std.specs.Prelude.{ℕ, false, List, ◌≡◌, Float, negsuc, Option, None, Some}
 use Rattle.std.specs.Float.{fin}
 use Rattle.floats.specs.Binary.{whole}
 use Rattle.grid.specs.Map.{Map}
@@ -9,11 +9,9 @@ use Rattle.candidates.specs.declared.Candidate.{Candidate}
 use Rattle.candidates.specs.Candidate.{candidate_of}
 use Rattle.ledger.specs.declared.Entry.{Entry}
 use Rattle.ledger.specs.Ledger.{no_entries}
-use Rattle.probes.specs.declared.Ambiguity.TheVariants as ambiguity-case
-use Rattle.probes.specs.declared.ShortBelow.{ShortBelow}
-use Rattle.probes.specs.declared.ShortBelow.TheVariants as short-case
+use Rattle.probes.specs.declared.Witness.{Witness}
 use Rattle.probes.specs.declared.Smallest.{Smallest}
-use Rattle.probes.specs.Smallest.{smallest}
+use Rattle.probes.specs.Smallest.{smallest, spread, witness}
 use Rattle.ring.specs.Ring.{ring, empty_ring}
 
 -- the smallest radius with spacing 4 from a fresh ledger, whose places may hold anything
@@ -24,7 +22,7 @@ ring_settled m share places = (smallest m (Cells 4) share (no_entries places)).a
 pub record LeastValues : Type 0 where
   pub km : ℕ
   pub centre : Candidate
-  pub short : ShortBelow
+  pub short : Option Witness
   pub evaluated : ℕ
   pub reused : ℕ
 
@@ -44,8 +42,8 @@ abbrev pub half : Float
 half = fin false 1 (negsuc 0)
 
 -- short at a kilometre with so many people
-abbrev pub short_at : ℕ → ℕ → ShortBelow
-short_at km population = short-case.Witness (record { 0 = km }) population
+abbrev pub short_at : ℕ → ℕ → Option Witness
+short_at km population = Some (witness km population)
 
 -- share 0.5 and share 1 of the ring, and share 0.5 of the ring with nobody
 pub record RingRadii : Type 0 where
@@ -54,6 +52,6 @@ pub record RingRadii : Type 0 where
   pub share_1 : (places : List Entry)
       → values_of (ring_settled ring (whole 1) places) ≡ record { km = 20016; centre = candidate_of (cell 0 0) 16; short = short_at 20015 15; evaluated = 16; reused = 0 }
   pub nobody : (places : List Entry)
-      → values_of (ring_settled empty_ring half places) ≡ record { km = 0; centre = candidate_of (cell 0 0) 0; short = short-case.Absent; evaluated = 2; reused = 0 }
+      → values_of (ring_settled empty_ring half places) ≡ record { km = 0; centre = candidate_of (cell 0 0) 0; short = None; evaluated = 2; reused = 0 }
   pub nobody_ambiguity : (places : List Entry)
-      → (ring_settled empty_ring half places).ambiguity ≡ ambiguity-case.Radii (record { 0 = 0 }) (record { 0 = 1 }) 2
+      → (ring_settled empty_ring half places).ambiguity ≡ Some (spread 0 1 2)

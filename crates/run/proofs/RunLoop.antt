@@ -6,6 +6,7 @@ use mathlib.Core.Bool.{Bool, true, false, cond, true≢false}
 use native.Mathlib.Omega.{arith}
 use lib.Ieee.{Float}
 use lib.ListN.{length}
+use Rattle.std.proofs.Common.{Some}
 use Rattle.lists.proofs.Bools.{cases}
 use Rattle.floats.specs.Binary.{whole}
 use Rattle.grid.specs.declared.Grid.{Grid}
@@ -22,7 +23,6 @@ use Rattle.search_rules.specs.declared.MostPopulous.{MostPopulous}
 use Rattle.search_rules.specs.Requires.{CanSearch}
 use Rattle.search_rules.specs.Search.{search}
 use Rattle.ledger.specs.declared.Entry.{Entry}
-use Rattle.ledger.specs.declared.Got.TheVariants.{Circle}
 use Rattle.ledger.specs.declared.Ledger.{Ledger}
 use Rattle.ledger.specs.Ledger.{get, ledger_in_order, places_free}
 use Rattle.ledger.specs.Requires.{PutRoom}
@@ -199,7 +199,7 @@ module _ {g : Grid} {angles cosines : List Float} {sums current following : List
               };
         }
 
-    pub loop_reuses : (km : ℕ) {x : Candidate} → get h km ≡ Circle x → CanNote s x
+    pub loop_reuses : (km : ℕ) {x : Candidate} → get h km ≡ Some x → CanNote s x
     loop_reuses km e = can_reuse i.order at.1 km e
 
     pub loop_puts : (x : Entry) → PutRoom h x

@@ -8,7 +8,7 @@ ghost use Rattle.probes.specs.State.{ran};
 
 use climb::Bracket;
 use grid::Grid;
-use ledger::{Got, Ledger};
+use ledger::Ledger;
 use probes::Ran;
 use share::Target;
 use spacing::Spacing;
@@ -37,8 +37,8 @@ pub fn run(
     while !bracket.closed() {
         let km = bracket.radius();
         match ledger_store::get(held, km) {
-            Got::Circle(centre) => state = run_state::reused(persons, slack, state, km, centre),
-            Got::Nothing => {
+            Some(centre) => state = run_state::reused(persons, slack, state, km, centre),
+            None => {
                 let found = search::search_at(
                     grid, angles, cosines, sums, current, following, km, spacing,
                 );

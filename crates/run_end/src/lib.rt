@@ -14,39 +14,36 @@ use probes::{RunEnd, RunState, Smallest};
 use share::Target;
 
 // The end of a run whose bracket is closed.
+#[tactic(auto, unfolding(crate::specs::State::end_from))]
 pub fn end_of(bracket: Bracket, state: RunState) -> RunEnd
     ensures { result ≡ end_from bracket state }
 {
-    let radius = bracket.low;
-    let centre = state.found;
-    let short = state.short;
-    let ambiguity = state.ambiguity;
-    let stats = state.stats;
     RunEnd {
-        radius_km: radius,
+        radius_km: bracket.low,
         reached: bracket.reached,
-        centre,
-        short_below: short,
-        ambiguity,
-        stats,
+        centre: state.found,
+        short_below: state.short,
+        ambiguity: state.ambiguity,
+        stats: state.stats,
     }
 }
 
 // At the ceiling, where all radii fell short, every circle is the whole grid.
+#[tactic(auto, using(kernel::proofs::WholeGrid::kernel_covers_lem), unfolding(probes::specs::State::end_covers))]
 fn covers(grid: Grid, angles: &[f64], end: RunEnd) -> bool
     requires { OnSheet grid angles.now end.centre.row }
     ensures { result ≡ end_covers (sheet_of grid angles.now) end }
 {
-    if end.reached {
-        let centre = end.centre;
-        let kernel = kernel::build(grid, angles, centre.row, end.radius_km.0 as f64);
-        return kernel_sums::covers(grid, kernel);
+    if !end.reached {
+        return true;
     }
-    true
+    let kernel = kernel::build(grid, angles, end.centre.row, end.radius_km.0 as f64);
+    kernel_sums::covers(grid, kernel)
 }
 
 // The answer at the end of a run. The slack bounds how far rounding moves a population that is summed in binary64 row by row, as the original
 // sums it. It decides nothing: it tells which probes stand too close to the target to be sure of.
+#[tactic(auto, using(floats::proofs::Literals::literal_0), unfolding(probes::specs::State::answer_by))]
 pub fn conclude(
     grid: Grid,
     angles: &[f64],
@@ -58,23 +55,16 @@ pub fn conclude(
     requires { CanConclude grid angles.now total end }
     ensures { result ≡ answer_by (sheet_of grid angles.now) target slack total end }
 {
-    let radius = end.radius_km;
-    let centre = end.centre;
-    let short = end.short_below;
-    let ambiguity = end.ambiguity;
-    let stats = end.stats;
-    let whole_grid = covers(grid, angles, end);
-    let share = share::share_of(centre.population, total);
     Smallest {
-        radius_km: radius,
-        centre,
+        radius_km: end.radius_km,
+        centre: end.centre,
         target,
-        share_achieved: share,
-        short_below: short,
-        covers_whole_grid: whole_grid,
+        share_achieved: share::share_of(end.centre.population, total),
+        short_below: end.short_below,
+        covers_whole_grid: covers(grid, angles, end),
         predicate_slack_persons: slack,
-        ambiguity,
+        ambiguity: end.ambiguity,
         tolerance_persons: 0.0,
-        stats,
+        stats: end.stats,
     }
 }

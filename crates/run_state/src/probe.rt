@@ -21,8 +21,7 @@ pub fn reused(
     requires { CanNote state centre }
     ensures { result ≡ noted persons slack state km.0 centre (reused_more state.stats) }
 {
-    let before = state.stats;
-    let stats = crate::state::reused_more(before);
+    let stats = crate::state::reused_more(state.stats);
     crate::state::noted(persons, slack, state, km, centre, stats)
 }
 
@@ -37,18 +36,16 @@ pub fn evaluated(
     requires { CanEvaluate state found }
     ensures { result ≡ noted persons slack state km.0 found.centre (evaluated_more state.stats found.tally.stats) }
 {
-    let centre = found.centre;
-    let tally = found.tally;
-    let search = tally.stats;
-    let before = state.stats;
-    let stats = crate::state::evaluated_more(before, search);
-    crate::state::noted(persons, slack, state, km, centre, stats)
+    let stats = crate::state::evaluated_more(state.stats, found.tally.stats);
+    crate::state::noted(persons, slack, state, km, found.centre, stats)
 }
 
 // The entry by which the ledger keeps a search.
 pub fn entry_of(km: RadiusKm, found: MostPopulous) -> Entry
     ensures { result ≡ entry km.0 found.centre }
 {
-    let centre = found.centre;
-    Entry { km, centre }
+    Entry {
+        km,
+        centre: found.centre,
+    }
 }

@@ -1,5 +1,6 @@
 -- The levels of a search on their way, over plain values: the blocks left in order in the first buffer, and what is left of the levels the
 -- whole search.
+use Rattle.std.proofs.Common.{Option, None}
 use Prim.Native.Nat.{ℕ, zero, suc, ◌+◌, ◌-◌, ◌≤◌, ◌<◌, ◌^◌}
 use mathlib.Core.Path.{◌≡◌, refl, sym, ap, subst, ◌∙◌}
 use mathlib.Core.List.{List, [], ◌∷◌}
@@ -24,8 +25,6 @@ use Rattle.blocks.specs.Requires.{Small}
 use Rattle.probe_order.specs.Requires.{CanTake}
 use Rattle.blocks.proofs.Tiles.{length_area, tile_rectangle, tile_room}
 use Rattle.blocks.proofs.Words.{rectangle_small, blocks_onto, blocks_written, blocks_sorted}
-use Rattle.candidates.specs.declared.Held.{Held}
-use Rattle.candidates.specs.declared.Held.TheVariants.{Nobody}
 use Rattle.tally.specs.declared.Tally.{Tally}
 use Rattle.levels.specs.declared.ChunkResult.{ChunkResult}
 use Rattle.search_rules.specs.declared.SearchResult.{SearchResult}
@@ -41,6 +40,7 @@ use Rattle.search_rules.specs.State.{FirstLevel, with_level}
 use Rattle.levels.proofs.Counts.{level_counts}
 use Rattle.search_rules.proofs.Levels.{after, Counted, blocks_fit, counted_first, counted_next, no_fuel, levels_none}
 use Rattle.search_rules.proofs.Places.{Few, counted_few, cells_few}
+use Rattle.candidates.specs.declared.Candidate.{Candidate}
 
 -- the words of rectangles on a grid that question 1 lets pass
 words_small : (g : Grid) → Sizes g → {bs : List Block} → AllOf (Rectangle g) bs → AllOf Small bs
@@ -87,7 +87,7 @@ few_light : (t : Tally) → Few t → weight t ≤ 30000000
 unfolding weight stats_weight
 few_light t f = omega (arith, f.levels, f.examined, f.pruned, f.evaluated, f.kernels, f.cells_ended)
 
-level_light : (m : Map) (km : Float) (best : Held) (bs : List Block) → AllOf (Rectangle m.globe.grid) bs → total_of area bs ≤ most_cells
+level_light : (m : Map) (km : Float) (best : Option Candidate) (bs : List Block) → AllOf (Rectangle m.globe.grid) bs → total_of area bs ≤ most_cells
     → weight (level m km best bs).tally ≤ 100000
 unfolding weight stats_weight
 level_light m km best bs rs h =
@@ -102,7 +102,7 @@ unfolding levels
 levels_step fuel m km s [] h = absurd (omega arith)
 levels_step fuel m km s (b ∷ bs) h = refl
 
-level_sorted : (m : Map) (km : Float) (best : Held) (bs sorted : List Block) → sorted ≡ sort by_probe bs → level_in_order m km best sorted ≡ level m km best bs
+level_sorted : (m : Map) (km : Float) (best : Option Candidate) (bs sorted : List Block) → sorted ≡ sort by_probe bs → level_in_order m km best sorted ≡ level m km best bs
 unfolding level_in_order level
 level_sorted m km best bs sorted e = rw e
 
@@ -132,7 +132,7 @@ module _ (gr : Grid) (angles cosines : List Float) (sums : List ℕ) (km : Float
     few_cells = cells_few gr s
 
     pub descend_start : cells gr ≤ length current₀ → cells gr ≤ length following₀ → (n : ℕ) → FirstLevel gr spacing current₀ n
-        → Descending current₀ following₀ n (record { held = Nobody; tally = no_tally })
+        → Descending current₀ following₀ n (record { held = None; tally = no_tally })
     unfolding searched
     descend_start p q n f =
         record {

@@ -37,6 +37,7 @@ pub(crate) fn searched(
 {
     let mut live = first_level(grid, spacing, current, following);
     let mut found = search_rules::nothing();
+    // A level is known only from the one before it, and the last has no block: there is nothing to count by.
     while 0 < live {
         let best = found.held;
         let level = sweep::level(

@@ -1,4 +1,5 @@
 -- The levels: they end with no block left, every cell pruned or settled, and the best circle held.
+use Rattle.std.proofs.Common.{Option, None, Some, IfSome}
 use Prim.Native.Nat.{ℕ, zero, suc, ◌+◌, ◌*◌, ◌≤◌}
 use mathlib.Core.Path.{◌≡◌, refl, ap}
 use mathlib.Core.Logic.{◌⊎◌, inl, inr}
@@ -17,8 +18,6 @@ use Rattle.grid.specs.Map.{Map}
 use Rattle.circle_cells.specs.Circle.{population}
 use Rattle.blocks.specs.declared.Block.{Block}
 use Rattle.candidates.specs.declared.Candidate.{Candidate}
-use Rattle.candidates.specs.declared.Held.{Held}
-use Rattle.candidates.specs.declared.Held.TheVariants.{Nobody, Best}
 use Rattle.tally.specs.declared.Tally.{Tally}
 use Rattle.search_rules.specs.Best.{BestOf}
 use Rattle.blocks.specs.Block.{area, tile, Rectangle, Holds}
@@ -29,7 +28,7 @@ use Rattle.search_rules.specs.declared.SearchResult.{SearchResult}
 use Rattle.search_rules.specs.Search.{levels, searched}
 use Rattle.bounds.proofs.Bounds.{Bounded}
 use Rattle.grid.proofs.CellOrder.{corner_on}
-use Rattle.candidates.proofs.Order.{◌≼◌, fewer, later, equal, OfHeld}
+use Rattle.candidates.proofs.Order.{◌≼◌, fewer, later, equal}
 use Rattle.blocks.proofs.Tiles.{tile_area, tile_cover, tile_rectangle, length_area}
 use Rattle.levels.proofs.Rule.{begun}
 use Rattle.levels.proofs.Counts.{Splits, rectangle_splits, next, ended, decided, level_counts}
@@ -88,7 +87,7 @@ counted_first g spacing w h =
 one_more : (a b l c : ℕ) → a ≤ l * c → b ≤ c → a + b ≤ (l + 1) * c
 one_more a b l c p q = omega arith
 
-pub counted_next : (m : Map) (km : Float) (best : Held) (n : ℕ) (t : Tally) (bs : List Block) → Counted m.globe.grid (suc n) t bs
+pub counted_next : (m : Map) (km : Float) (best : Option Candidate) (n : ℕ) (t : Tally) (bs : List Block) → Counted m.globe.grid (suc n) t bs
     → Counted m.globe.grid n (plus t (level m km best bs).tally) (next (level m km best bs))
 unfolding plus plus_stats
 counted_next m km best n t bs i =
@@ -142,7 +141,7 @@ unfolding searched
 searched_tallied m km spacing w h =
     let g = m.globe.grid in
     let (k, i) = levels_rule m km (λ n s. Counted g n s.tally) (λ n s. counted_next m km s.held n s.tally) (λ s. no_fuel g s.tally)
-    (g.width + g.height) (record { held = Nobody; tally = no_tally }) (tile g spacing) (counted_first g spacing w h) in
+    (g.width + g.height) (record { held = None; tally = no_tally }) (tile g spacing) (counted_first g spacing w h) in
     tallied_end g k (searched m km spacing).tally i
 
 -- ---- the best circle
@@ -150,7 +149,7 @@ searched_tallied m km spacing w h =
 -- before a level: what is held is a circle, and each cell of the grid is at most that or in a block
 pub record Finding (m : Map) (km : Float) (n : ℕ) (s : SearchResult) (bs : List Block) : Type 0 where
   pub counted : Counted m.globe.grid n s.tally bs
-  pub circle : OfHeld (Circle m km) s.held
+  pub circle : IfSome s.held (Circle m km)
   pub found : (x : Cell) → T (on_grid m.globe.grid x) → Found m km x s.held bs
 
 pub finding_next : (m : Map) (km : Float) → Bounded m km → (n : ℕ) (s : SearchResult) (bs : List Block) → Finding m km (suc n) s bs
@@ -170,9 +169,9 @@ finding_next m km bounded n s bs i =
     go x (inr a) = step.found x a
 
 -- a search holds the best circle, with its population
-pub record HeldBest (m : Map) (km : Float) (h : Held) : Type 0 where
+pub record HeldBest (m : Map) (km : Float) (h : Option Candidate) : Type 0 where
   pub centre : Candidate
-  pub held : h ≡ Best centre
+  pub held : h ≡ Some centre
   pub best : BestOf m.globe.grid (population m km) (centre_of centre)
   pub people : centre.population ≡ population m km (centre_of centre)
 
@@ -193,18 +192,18 @@ best_of m km c is all =
     first x e (later p b) = inr b
     first x e (equal p) = inl (ap (λ (k : Candidate). centre_of k) p)
 
-held_end : (m : Map) (km : Float) (k : ℕ) (t : Tally) (h : Held) → 1 ≤ m.globe.grid.width → 1 ≤ m.globe.grid.height
+held_end : (m : Map) (km : Float) (k : ℕ) (t : Tally) (h : Option Candidate) → 1 ≤ m.globe.grid.width → 1 ≤ m.globe.grid.height
     → Finding m km k (record { held = h; tally = t }) [] → HeldBest m km h
-held_end m km k t Nobody w h i =
+held_end m km k t None w h i =
     absurd (empty (i.found (cell 0 0) (corner_on m.globe.grid w h)))
   where
     empty : ⊥ ⊎ AnyOf (λ b. Holds b (cell 0 0)) [] → ⊥
     empty (inl e) = e
     empty (inr a) = elim a [ ]
-held_end m km k t (Best c) w h i =
+held_end m km k t (Some c) w h i =
     record { centre = c; held = refl; best = best_of m km c i.circle (λ x on. sure x (i.found x on)); people = i.circle.people }
   where
-    sure : (x : Cell) → Found m km x (Best c) [] → candidate m km x ≼ c
+    sure : (x : Cell) → Found m km x (Some c) [] → candidate m km x ≼ c
     sure x (inl e) = e
     sure x (inr a) = elim a [ ]
 
@@ -214,8 +213,8 @@ pub searched_best : (m : Map) (km : Float) → Bounded m km → (spacing : ℕ) 
 unfolding searched
 searched_best m km bounded spacing w h =
     let g = m.globe.grid in
-    let begin : Finding m km (g.width + g.height) (record { held = Nobody; tally = no_tally }) (tile g spacing) =
+    let begin : Finding m km (g.width + g.height) (record { held = None; tally = no_tally }) (tile g spacing) =
     record { counted = counted_first g spacing w h; circle = tt; found = λ x t. inr (tile_cover g spacing x t) } in
     let (k, i) = levels_rule m km (Finding m km) (finding_next m km bounded) (λ s b bs i. no_fuel g s.tally b bs i.counted)
-    (g.width + g.height) (record { held = Nobody; tally = no_tally }) (tile g spacing) begin in
+    (g.width + g.height) (record { held = None; tally = no_tally }) (tile g spacing) begin in
     held_end m km k (searched m km spacing).tally (searched m km spacing).held w h i

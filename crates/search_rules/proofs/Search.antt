@@ -1,4 +1,5 @@
 -- The search at a whole number of kilometres names the best circle, with its population, and accounts for every cell.
+use Rattle.std.proofs.Common.{None, unwrap_or}
 use Prim.Native.Nat.{ℕ, zero, suc, ◌+◌, ◌≤◌}
 use mathlib.Core.Path.{◌≡◌, sym, ap, ◌∙◌}
 use mathlib.Core.Logic.{◌⊎◌, inl, inr}
@@ -16,15 +17,12 @@ use Rattle.spacing.specs.declared.Spacing.{Spacing}
 use Rattle.spacing.specs.Spacing.{spacing_of}
 use Rattle.bounds.proofs.Bounds.{Bounded}
 use Rattle.grid.proofs.CellOrder.{corner_on, Compared, first, same, second, compare, Earlier, north, west, earlier}
-use Rattle.candidates.specs.declared.Candidate.{Candidate}
-use Rattle.candidates.specs.declared.Held.{Held}
-use Rattle.candidates.specs.declared.Held.TheVariants.{Nobody, Best}
 use Rattle.search_rules.specs.declared.MostPopulous.{MostPopulous}
 use Rattle.search_rules.specs.Best.{BestOf}
 use Rattle.candidates.specs.Candidate.{centre_of, north_west}
 use Rattle.tally.specs.Counts.{no_tally}
 use Rattle.search_rules.specs.declared.SearchResult.{SearchResult}
-use Rattle.search_rules.specs.Search.{searched, held_or, most_populous, search}
+use Rattle.search_rules.specs.Search.{searched, most_populous, search}
 use Rattle.search_rules.proofs.Levels.{searched_best, Tallied, searched_tallied}
 
 -- the best circle at a radius, with its population; and above radius 0 every cell pruned or settled
@@ -73,13 +71,9 @@ module _ (m : Map) (spacing : Spacing) where
   abbrev pub found : ℕ → SearchResult
   found km = searched m (whole km) (spacing_of m.globe.grid (whole km) spacing)
 
-  pub search_is : (km : ℕ) → 1 ≤ km → search m spacing km ≡ most_populous km (held_or (north_west 0) (found km).held) (found km).tally
+  pub search_is : (km : ℕ) → 1 ≤ km → search m spacing km ≡ most_populous km (unwrap_or (found km).held (north_west 0)) (found km).tally
   unfolding search
   search_is km p = rw (ne_eqb km 0 (λ e. omega arith))
-
-  held_or_lem : (c d : Candidate) (h : Held) → h ≡ Best d → held_or c h ≡ d
-  unfolding held_or
-  held_or_lem c d h e = rw e
 
   -- for any sheet, fair or not: the counts of the search
   pub search_tallied : (km : ℕ) → 1 ≤ km → 1 ≤ m.globe.grid.width → 1 ≤ m.globe.grid.height → Tallied m.globe.grid (search m spacing km).tally
@@ -88,9 +82,8 @@ module _ (m : Map) (spacing : Spacing) where
   search_above : (km : ℕ) → 1 ≤ km → Bounded m (whole km) → 1 ≤ m.globe.grid.width → 1 ≤ m.globe.grid.height → Searched m km (search m spacing km)
   search_above km p bounded w h =
       let b = searched_best m (whole km) bounded (spacing_of m.globe.grid (whole km) spacing) w h in
-      let c = held_or_lem (north_west 0) b.centre (found km).held b.held in
       rw (search_is km p)
-      (record { best = rw c b.best; people = rw c b.people; tallied = λ q. (searched_tallied m (whole km) (spacing_of m.globe.grid (whole km) spacing) w h).cells_all })
+      (record { best = rw b.held b.best; people = rw b.held b.people; tallied = λ q. (searched_tallied m (whole km) (spacing_of m.globe.grid (whole km) spacing) w h).cells_all })
 
   -- where bounds hold, a search names the best circle at every whole radius
   pub search_best : (km : ℕ) → (1 ≤ km → Bounded m (whole km)) → 1 ≤ m.globe.grid.width → 1 ≤ m.globe.grid.height → Searched m km (search m spacing km)
@@ -99,16 +92,16 @@ module _ (m : Map) (spacing : Spacing) where
 
 -- ---- what the code's search gives: nothing at radius 0, and otherwise what its levels found
 
-pub search_none : (m : Map) (spacing : Spacing) (km : ℕ) (found : SearchResult) → km ≡ 0 → found ≡ record { held = Nobody; tally = no_tally }
-    → most_populous km (held_or (north_west 0) found.held) found.tally ≡ search m spacing km
-unfolding search held_or
+pub search_none : (m : Map) (spacing : Spacing) (km : ℕ) (found : SearchResult) → km ≡ 0 → found ≡ record { held = None; tally = no_tally }
+    → most_populous km (unwrap_or found.held (north_west 0)) found.tally ≡ search m spacing km
+unfolding search
 search_none m spacing km found e f = rw (e, f)
 
 pub search_found : (m : Map) (spacing : Spacing) (km side : ℕ) (found : SearchResult) → (km ≡ 0 → ⊥) → side ≡ spacing_of m.globe.grid (whole km) spacing
     → record { held = found.held; tally = found.tally } ≡ searched m (whole km) side
-    → most_populous km (held_or (north_west 0) found.held) found.tally ≡ search m spacing km
+    → most_populous km (unwrap_or found.held (north_west 0)) found.tally ≡ search m spacing km
 unfolding search
 search_found m spacing km side found some e f =
     let g : record { held = found.held; tally = found.tally } ≡ searched m (whole km) (spacing_of m.globe.grid (whole km) spacing) =
     f ∙ ap (searched m (whole km)) e in
-    rw (ne_eqb km 0 some) (ap (λ (l : SearchResult). most_populous km (held_or (north_west 0) l.held) l.tally) g)
+    rw (ne_eqb km 0 some) (ap (λ (l : SearchResult). most_populous km (unwrap_or l.held (north_west 0)) l.tally) g)

@@ -1,12 +1,10 @@
 -- The search: levels until no block is left.
-use Rattle.std.specs.Prelude.{ℕ, zero, suc, ◌+◌, cond, List, [], ◌∷◌, Float, eqb}
+use Rattle.std.specs.Prelude.{ℕ, zero, suc, ◌+◌, cond, List, [], ◌∷◌, Float, eqb, None, unwrap_or}
 use Rattle.floats.specs.Binary.{whole}
 use Rattle.lists.specs.Lists.{concat_each}
 use Rattle.grid.specs.Map.{Map}
 use Rattle.blocks.specs.declared.Block.{Block}
 use Rattle.candidates.specs.declared.Candidate.{Candidate}
-use Rattle.candidates.specs.declared.Held.{Held}
-use Rattle.candidates.specs.declared.Held.TheVariants.{Nobody, Best}
 use Rattle.search_rules.specs.declared.MostPopulous.{MostPopulous}
 use Rattle.search_rules.specs.declared.SearchResult.{SearchResult}
 use Rattle.spacing.specs.declared.Spacing.{Spacing}
@@ -31,12 +29,7 @@ levels (suc fuel) m km s (b ∷ bs) =
 unfoldable pub searched : Map → Float → ℕ → SearchResult
 searched m km spacing =
     let g = m.globe.grid in
-    levels (g.width + g.height) m km (record { held = Nobody; tally = no_tally }) (tile g spacing)
-
--- what is held, or a candidate in its place
-unfoldable pub held_or : Candidate → Held → Candidate
-held_or c Nobody = c
-held_or c (Best d) = d
+    levels (g.width + g.height) m km (record { held = None; tally = no_tally }) (tile g spacing)
 
 -- the answer of a search, with a tolerance of 0 persons
 abbrev pub most_populous : ℕ → Candidate → Tally → MostPopulous
@@ -46,9 +39,9 @@ most_populous km centre tally = record { centre = centre; radius = record { 0 = 
 unfoldable pub search : Map → Spacing → ℕ → MostPopulous
 search m spacing km =
     let found = searched m (whole km) (spacing_of m.globe.grid (whole km) spacing) in
-    cond (eqb km 0) (most_populous 0 (north_west 0) no_tally) (most_populous km (held_or (north_west 0) found.held) found.tally)
+    cond (eqb km 0) (most_populous 0 (north_west 0) no_tally) (most_populous km (unwrap_or found.held (north_west 0)) found.tally)
 
 -- opens all of the above, for facts that are computed
 unfoldable pub open_searches : Unit {0}
-unfolding levels searched held_or search
+unfolding levels searched search
 open_searches = tt

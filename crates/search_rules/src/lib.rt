@@ -1,15 +1,14 @@
 // What a search is: its definitions with their laws, its answer, and what the levels come to. `search` goes through the levels.
 #![tactic(auto)]
 
-ghost use Rattle.std.specs.Prelude.{◌≡◌, ◌+◌, ◌≤◌, ◌^◌};
-ghost use Rattle.candidates.specs.declared.Held.TheVariants.{Nobody};
+ghost use Rattle.std.specs.Prelude.{◌≡◌, ◌+◌, ◌≤◌, ◌^◌, None, unwrap_or};
 ghost use Rattle.candidates.specs.Candidate.{north_west};
 ghost use Rattle.tally.specs.Counts.{no_tally};
 ghost use Rattle.tally.specs.State.{weight};
-ghost use Rattle.search_rules.specs.Search.{held_or, most_populous};
+ghost use Rattle.search_rules.specs.Search.{most_populous};
 ghost use Rattle.search_rules.specs.State.{with_level};
 
-use candidates::{Candidate, Held};
+use candidates::Candidate;
 use grid::{Cell, Col, RadiusKm, Row};
 use levels::ChunkResult;
 use tally::{SearchStats, Tally};
@@ -17,7 +16,7 @@ use tally::{SearchStats, Tally};
 // What the levels have come to.
 #[derive(Clone, Copy)]
 pub struct SearchResult {
-    pub held: Held,
+    pub held: Option<Candidate>,
     pub tally: Tally,
 }
 
@@ -32,54 +31,42 @@ pub struct MostPopulous {
 }
 
 // Nothing held and nothing counted.
+#[tactic(auto, unfolding(tally::specs::Counts::no_tally, tally::specs::Counts::no_stats))]
 pub fn nothing() -> SearchResult
-    ensures { result ≡ record { held = Nobody; tally = no_tally } }
+    ensures { result ≡ record { held = None; tally = no_tally } }
 {
     let stats = SearchStats::of(0, 0, 0, 0, 0);
-    let tally = Tally::of(stats, 0, 0);
-    let held = Held::Nobody;
-    SearchResult { held, tally }
+    SearchResult {
+        held: None,
+        tally: Tally::of(stats, 0, 0),
+    }
 }
 
 // What a level holds, and its counts added.
+#[tactic(auto, unfolding(crate::specs::State::with_level))]
 pub fn with_level(found: SearchResult, level: ChunkResult) -> SearchResult
     requires { weight found.tally + weight level.tally ≤ 2 ^ 31 }
     ensures { result ≡ with_level found level }
 {
-    let held = level.held;
-    let counted = found.tally;
-    let more = level.tally;
-    let tally = tally::plus(counted, more);
-    SearchResult { held, tally }
-}
-
-// What is held, or the cell (0, 0) with nobody.
-fn held_or_north_west(held: Held) -> Candidate
-    ensures { result ≡ held_or (north_west 0) held }
-{
-    match held {
-        Held::Nobody => Candidate::at(
-            Cell {
-                row: Row(0),
-                col: Col(0),
-            },
-            0,
-        ),
-        Held::Best(c) => c,
+    SearchResult {
+        held: level.held,
+        tally: tally::plus(found.tally, level.tally),
     }
 }
 
 // What the levels found, with its radius: the cell (0, 0) with nobody where nothing is held.
+#[tactic(auto, using(floats::proofs::Literals::literal_0), unfolding(candidates::specs::Candidate::north_west))]
 pub fn answer_of(found: SearchResult, km: RadiusKm) -> MostPopulous
-    ensures { result ≡ most_populous km.0 (held_or (north_west 0) found.held) found.tally }
+    ensures { result ≡ most_populous km.0 (unwrap_or found.held (north_west 0)) found.tally }
 {
-    let held = found.held;
-    let tally = found.tally;
-    let centre = held_or_north_west(held);
+    let corner = Cell {
+        row: Row(0),
+        col: Col(0),
+    };
     MostPopulous {
-        centre,
+        centre: found.held.unwrap_or(Candidate::at(corner, 0)),
         radius: km,
         tolerance_persons: 0.0,
-        tally,
+        tally: found.tally,
     }
 }

@@ -1,5 +1,5 @@
 // The target and what is measured against it, operation for operation.
-#![tactic(auto)]
+#![tactic(auto, unfolding(crate::specs::Target::open_shares, floats::specs::Binary::open_floats))]
 
 ghost use Rattle.std.specs.Prelude.{◌≡◌, ◌≤◌, ◌^◌};
 ghost use Rattle.share.specs.Target.{share_in_range, target_of, reaches, within_slack, predicate_slack_persons, share_of};
@@ -19,10 +19,7 @@ pub struct Target {
 pub fn share_in_range(share: f64) -> bool
     ensures { result ≡ share_in_range share }
 {
-    if !floats::is_finite(share) {
-        return false;
-    }
-    if 0.0 < share { share <= 1.0 } else { false }
+    floats::is_finite(share) && 0.0 < share && share <= 1.0
 }
 
 // Share × total with one rounding: a total up to 2 to the power 53 is exact as binary64, so the product alone is rounded.

@@ -1,7 +1,6 @@
 // The judge of a sheet's angles: fed one at a time, or a run of them at once. A run is the angles of a centre row and a row.
 // What is asked of an angle stands in `specs/Judge.antt`, what is asked of a run in `specs/State.antt`, under the same names.
 ghost use Rattle.std.specs.Prelude.{◌≡◌, ◌<◌, length};
-ghost use Rattle.std.specs.Float.Ieee.{le};
 ghost use Rattle.lists.specs.Lists.{fold};
 ghost use Rattle.grid.specs.Grid.{angle_count};
 ghost use Rattle.sheet.specs.Judge.{judge_start, own_fits, row_fits, head_fits, angle_fits, head_after, next_row, next_place, judge_feed, judged};
@@ -11,28 +10,20 @@ ghost use Rattle.sheet.specs.State.{not_falling, run_fits, run_ahead};
 use crate::SheetJudge;
 use grid::Grid;
 
-fn at_most(x: f64, y: f64) -> bool
-    ensures { result ≡ le x y }
-{
-    x <= y
-}
-
 // Whether no angle of the run is below the one before it. Without a way out of the loop several angles are compared at a time.
 fn not_falling(run: &[f64]) -> bool
     ensures { result ≡ not_falling run.now }
 {
-    let n = run.len();
     let mut rises = true;
-    let mut k: usize = 1;
-    while k < n {
-        rises = rises & at_most(run[k - 1], run[k]);
-        k += 1;
+    for k in 1..run.len() {
+        rises &= run[k - 1] <= run[k];
     }
     rises
 }
 
 impl SheetJudge {
     // Before the first angle.
+    #[tactic(auto, using(floats::proofs::Literals::literal_0), unfolding(crate::specs::Judge::judge_start))]
     pub fn start(grid: Grid) -> SheetJudge
         ensures { result ≡ judge_start grid }
     {
@@ -48,17 +39,15 @@ impl SheetJudge {
     }
 
     // An angle at offset 0 is 0 where the row is the centre row.
+    #[tactic(auto, using(floats::proofs::Literals::literal_0), unfolding(crate::specs::Judge::own_fits))]
     fn own_fits(self, angle: f64) -> bool
         ensures { result ≡ own_fits self angle }
     {
-        if self.row == self.centre {
-            angle == 0.0
-        } else {
-            true
-        }
+        self.row != self.centre || angle == 0.0
     }
 
     // From row 1 on: of a row and the one before, at offset 0, the one nearer to the centre row has no larger angle.
+    #[tactic(auto, unfolding(crate::specs::Judge::row_fits))]
     fn row_fits(self, angle: f64) -> bool
         ensures { result ≡ row_fits self angle }
     {
@@ -66,35 +55,35 @@ impl SheetJudge {
             return true;
         }
         if self.row <= self.centre {
-            at_most(angle, self.head)
+            angle <= self.head
         } else {
-            at_most(self.head, angle)
+            self.head <= angle
         }
     }
 
     // What is asked of an angle at offset 0 beyond its range.
+    #[tactic(auto, unfolding(crate::specs::Judge::head_fits))]
     fn head_fits(self, angle: f64) -> bool
         ensures { result ≡ head_fits self angle }
     {
-        if !self.own_fits(angle) {
-            return false;
-        }
-        self.row_fits(angle)
+        self.own_fits(angle) && self.row_fits(angle)
     }
 
     // What is asked of the next angle.
+    #[tactic(auto, using(floats::proofs::Literals::literal_0), unfolding(crate::specs::Judge::angle_fits))]
     fn angle_fits(self, angle: f64) -> bool
         ensures { result ≡ angle_fits self angle }
     {
-        let in_range = at_most(0.0, angle) & at_most(angle, grid::HALF_TURN);
+        let in_range = (0.0 <= angle) & (angle <= grid::HALF_TURN);
         if self.offset == 0 {
             in_range & self.head_fits(angle)
         } else {
-            in_range & at_most(self.before, angle)
+            in_range & (self.before <= angle)
         }
     }
 
     // The latest offset-0 angle, once this angle is fed.
+    #[tactic(auto, unfolding(crate::specs::Judge::head_after))]
     fn head_after(self, angle: f64) -> f64
         ensures { result ≡ head_after self angle }
     {
@@ -102,49 +91,46 @@ impl SheetJudge {
     }
 
     // The next row of this centre row, or row 0 of the next centre row.
+    #[tactic(auto, unfolding(crate::specs::Judge::next_row))]
     fn next_row(self, before: f64, head: f64, well: bool) -> SheetJudge
         requires { self.centre < self.grid.height }
         ensures { result ≡ next_row self before head well }
     {
-        let grid = self.grid;
         if self.row < self.grid.height - 1 {
             SheetJudge {
-                grid,
-                centre: self.centre,
                 row: self.row + 1,
                 offset: 0,
                 before,
                 head,
                 well,
+                ..self
             }
         } else {
             SheetJudge {
-                grid,
                 centre: self.centre + 1,
                 row: 0,
                 offset: 0,
                 before,
                 head,
                 well,
+                ..self
             }
         }
     }
 
     // The next offset of this row, or the next row.
+    #[tactic(auto, unfolding(crate::specs::Judge::next_place))]
     fn next_place(self, before: f64, head: f64, well: bool) -> SheetJudge
         requires { self.centre < self.grid.height }
         ensures { result ≡ next_place self before head well }
     {
-        let grid = self.grid;
-        if self.offset < grid::closing(grid) {
+        if self.offset < grid::closing(self.grid) {
             SheetJudge {
-                grid,
-                centre: self.centre,
-                row: self.row,
                 offset: self.offset + 1,
                 before,
                 head,
                 well,
+                ..self
             }
         } else {
             self.next_row(before, head, well)
@@ -152,6 +138,7 @@ impl SheetJudge {
     }
 
     // The sheet's next angle. Past the last one the judge stays as it is.
+    #[tactic(auto, unfolding(crate::specs::Judge::judge_feed))]
     pub fn feed(self, angle: f64) -> SheetJudge
         ensures { result ≡ judge_feed self angle }
     {
@@ -165,30 +152,23 @@ impl SheetJudge {
     }
 
     // Whether the judge stands where a run begins, and n angles hold it.
+    #[tactic(auto, unfolding(crate::specs::State::run_ahead))]
     fn run_ahead(self, n: usize) -> bool
         ensures { result ≡ run_ahead self n }
     {
-        let grid = self.grid;
-        let last = grid::closing(grid) as usize;
-        (self.offset == 0) & (self.centre < self.grid.height) & (last < n)
+        let last = grid::closing(self.grid) as usize;
+        self.offset == 0 && self.centre < self.grid.height && last < n
     }
 
     // What is asked of a run: where no angle falls its first and its last one bound the rest.
+    #[tactic(auto, using(floats::proofs::Literals::literal_0), unfolding(crate::specs::State::run_fits))]
     fn run_fits(self, run: &[f64]) -> bool
         requires { 0 < length run.now }
         ensures { result ≡ run_fits self run.now }
     {
         let first = run[0];
-        if !at_most(0.0, first) {
-            return false;
-        }
-        if !self.head_fits(first) {
-            return false;
-        }
-        if !at_most(run[run.len() - 1], grid::HALF_TURN) {
-            return false;
-        }
-        not_falling(run)
+        let last = run[run.len() - 1];
+        0.0 <= first && self.head_fits(first) && last <= grid::HALF_TURN && not_falling(run)
     }
 
     // The next run, as if its angles were fed one by one.
@@ -200,7 +180,8 @@ impl SheetJudge {
         self.next_row(run[run.len() - 1], run[0], well)
     }
 
-    // The sheet's next angles, as if fed one by one, whole runs at once: a sheet may come in pieces of any length.
+    // The sheet's next angles, as if fed one by one, whole runs at once: a sheet may come in pieces of any length. No `for` steps by a run or
+    // by one angle as the judge stands, so the place is counted.
     pub fn feed_all(self, angles: &[f64]) -> SheetJudge
         ensures { result ≡ fold judge_feed self angles.now }
     {

@@ -31,7 +31,7 @@ use Rattle.run_end.proofs.Ends.{answer_sheet, settled_by, ran_settles}
 use Rattle.probes.proofs.Probes.{people_exact}
 use Rattle.probes.proofs.Centres.{ran_in_bounds}
 use Rattle.smallest_rules.specs.declared.SmallestResult.{SmallestResult}
-use Rattle.smallest_rules.specs.declared.SmallestAnswer.TheVariants.{Found}
+use Rattle.std.specs.Prelude.{Ok}
 use Rattle.smallest_rules.specs.Call.{smallest_own}
 use Rattle.smallest.specs.Requires.{CanSettle}
 use Rattle.smallest_rules.specs.State.{IsSettled}
@@ -74,13 +74,13 @@ module _ {g : Grid} {angles cosines : List Float} {sums current following : List
         }
 
     pub is_settled : {a : Smallest} → a ≡ answer_by (sheet_of g angles) t slack people r.end
-        → IsSettled (smallest (summed_map g angles cosines sums) spacing share l) (record { answer = Found a; ledger = r.ledger })
+        → IsSettled (smallest (summed_map g angles cosines sums) spacing share l) (record { answer = Ok a; ledger = r.ledger })
     is_settled {a} f =
         let m = summed_map g angles cosines sums in
         let same : settled_by m share r ≡ smallest m spacing share l = rw (ends, same_share) (ran_settles m spacing share l) in
         let width : slack ≡ predicate_slack_persons g (whole (total m)) = k ∙ ap (λ (x : Target). predicate_slack_persons g x.total) the_target in
         let whole-answer : a ≡ (settled_by m share r).answer = f ∙ answer_sheet g angles cosines t slack people r.end ∙ rw (the_target, width, all_people) in
-        record { answer = rw (← same) (ap Found whole-answer); ledger = ap (λ (x : Settled). x.ledger) same }
+        record { answer = rw (← same) (ap Ok whole-answer); ledger = ap (λ (x : Settled). x.ledger) same }
 
 -- ---- what an accepted call knows at each of its steps
 

@@ -1,6 +1,7 @@
 // The smallest-radius call: it puts its questions, fills the sums, runs, and answers from where the run has ended.
 ghost use Rattle.std.specs.Prelude.{◌≡◌};
-ghost use Rattle.grid.specs.Answer.{first_no};
+ghost use Rattle.grid.specs.Answer.{first_no, decide};
+ghost use Rattle.grid.specs.Refusal.{answer_of};
 ghost use Rattle.grid.specs.Map.{lent_map};
 ghost use Rattle.levels.specs.State.{summed_map};
 ghost use Rattle.most_populous.specs.Call.{buffers};
@@ -9,9 +10,9 @@ ghost use Rattle.smallest_rules.specs.Call.{smallest_questions, smallest_gave, s
 ghost use Rattle.smallest.specs.Requires.{CanSettle};
 ghost use Rattle.smallest_rules.specs.State.{IsSettled};
 
-use grid::Grid;
+use grid::{Grid, Refusal};
 use ledger::Ledger;
-use smallest_rules::{SmallestAnswer, SmallestResult};
+use smallest_rules::SmallestResult;
 use spacing::Spacing;
 
 // The smallest radius of a map whose questions are answered and whose sums are filled.
@@ -37,17 +38,16 @@ fn settle(
     let ran = run::run(
         grid, angles, cosines, sums, current, following, spacing, target, slack, total, ledger,
     );
-    let end = ran.end;
-    let found = run_end::conclude(grid, angles, target, slack, total, end);
-    let kept = ran.ledger;
     SmallestResult {
-        answer: SmallestAnswer::Found(found),
-        ledger: kept,
+        answer: Ok(run_end::conclude(
+            grid, angles, target, slack, total, ran.end,
+        )),
+        ledger: ran.ledger,
     }
 }
 
-// The number of the first question of the call that is answered no, or 0.
-fn smallest_refusal(
+// The first question of the call that is answered no.
+fn smallest_asked(
     grid: Grid,
     counts: &[u32],
     angles: &[f64],
@@ -58,23 +58,20 @@ fn smallest_refusal(
     sums: &[u64],
     current: &[u64],
     following: &[u64],
-) -> u32
-    ensures { result ≡ first_no (smallest_questions
+) -> Result<(), Refusal>
+    ensures { answer_of result ≡ decide (first_no (smallest_questions
         (lent_map grid counts.now angles.now cosines.now)
         spacing share ledger
-        (buffers sums.now current.now following.now)) }
+        (buffers sums.now current.now following.now))) tt }
 {
-    let refusal = map_questions::map_refusal(grid, counts, angles, cosines);
-    if refusal != 0 {
-        return refusal;
-    }
+    map_questions::map_asked(grid, counts, angles, cosines)?;
     if !most_populous::buffers_fit(grid, sums, current, following) {
-        return 7;
+        return Err(Refusal::Buffers);
     }
-    smallest_rules::own_refusal(grid, share, spacing, ledger)
+    smallest_rules::own_asked(grid, share, spacing, ledger)
 }
 
-// The smallest-radius call: the answer, or the number of the first question that is answered no, beside the ledger after it. A refusal gives the
+// The smallest-radius call: the answer, or the first question that is answered no, beside the ledger after it. A refusal gives the
 // ledger back as it came. An accepted call fills the sums even where the ledger holds every probe, so that what it leaves does not hang on that.
 pub fn smallest_radius(
     grid: Grid,
@@ -93,12 +90,11 @@ pub fn smallest_radius(
         spacing share ledger
         (buffers sums.old current.old following.old) }
 {
-    let refusal = smallest_refusal(
+    if let Err(refusal) = smallest_asked(
         grid, counts, angles, cosines, share, spacing, ledger, sums, current, following,
-    );
-    if refusal != 0 {
+    ) {
         return SmallestResult {
-            answer: SmallestAnswer::Refused(refusal),
+            answer: Err(refusal),
             ledger,
         };
     }

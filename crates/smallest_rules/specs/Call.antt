@@ -2,7 +2,8 @@
 use Rattle.std.specs.Prelude.{ℕ, List, [], ◌∷◌, ◌++◌, Float}
 use Rattle.grid.specs.declared.Grid.{Grid}
 use Rattle.grid.specs.Map.{Map}
-use Rattle.grid.specs.Answer.{Question, question, first_no, Answer, answered, refused, decide, after, shown}
+use Rattle.grid.specs.Answer.{Question, question, first_no, Answer, decide, after, shown}
+use Rattle.grid.specs.Refusal.{answer_of}
 use Rattle.grid.specs.Questions.{map_questions}
 use Rattle.spacing.specs.declared.Spacing.{Spacing}
 use Rattle.spacing.specs.Spacing.{spacing_given}
@@ -13,8 +14,6 @@ use Rattle.climb.specs.Climb.{most_radii}
 use Rattle.share.specs.Target.{share_in_range}
 use Rattle.probes.specs.declared.Smallest.{Smallest}
 use Rattle.probes.specs.Smallest.{smallest}
-use Rattle.smallest_rules.specs.declared.SmallestAnswer.{SmallestAnswer}
-use Rattle.smallest_rules.specs.declared.SmallestAnswer.TheVariants as smallest-answer
 use Rattle.smallest_rules.specs.declared.SmallestResult.{SmallestResult}
 
 -- the questions of the call after the map's and that of the buffers
@@ -42,18 +41,13 @@ smallest_call m spacing share l lent =
     let answer = decide (first_no (smallest_questions m spacing share l lent)) settled.answer in
     record { answer = answer; ledger = after answer settled.ledger l; lent = buffers_after answer m lent }
 
--- the specification's number and values for each case of the answer
-unfoldable pub smallest_answer : SmallestAnswer → Answer Smallest
-smallest_answer (smallest-answer.Found s) = answered s
-smallest_answer (smallest-answer.Refused n) = refused n
-
 -- what a call has given: its answer, its ledger, and the buffers as it leaves them, the level buffers as far as they are stated
 abbrev pub smallest_gave : SmallestResult → List ℕ → List ℕ → List ℕ → SmallestOutcome
 smallest_gave r sums current following =
-    let answer = smallest_answer r.answer in
+    let answer = answer_of r.answer in
     record { answer = answer; ledger = r.ledger; lent = buffers sums (shown answer current) (shown answer following) }
 
 -- opens all of the above, for facts that are computed
 unfoldable pub open_smallest_calls : Unit {0}
-unfolding own_questions smallest_questions smallest_call smallest_answer
+unfolding own_questions smallest_questions smallest_call
 open_smallest_calls = tt

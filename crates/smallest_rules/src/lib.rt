@@ -2,44 +2,39 @@
 #![tactic(auto)]
 
 ghost use Rattle.std.specs.Prelude.{◌≡◌};
-ghost use Rattle.grid.specs.Answer.{first_no};
+ghost use Rattle.grid.specs.Answer.{first_no, decide};
+ghost use Rattle.grid.specs.Refusal.{answer_of};
 ghost use Rattle.smallest_rules.specs.Call.{own_questions};
 
 use climb::MOST_RADII;
-use grid::Grid;
+use grid::{Grid, Refusal};
 use ledger::Ledger;
 use probes::Smallest;
 use spacing::Spacing;
 
-// The smallest radius, or the number of the refusal.
-#[derive(Clone, Copy)]
-pub enum SmallestAnswer {
-    Found(Smallest),
-    Refused(u32),
-}
-
-// The call's answer beside the ledger after it.
+// The smallest radius or the refusal, beside the ledger after the call.
 #[derive(Clone, Copy)]
 pub struct SmallestResult {
-    pub answer: SmallestAnswer,
+    pub answer: Result<Smallest, Refusal>,
     pub ledger: Ledger,
 }
 
-// The number of the first of the questions 9 to 12 that is answered no, or 0.
-pub fn own_refusal(grid: Grid, share: f64, spacing: Spacing, ledger: Ledger) -> u32
-    ensures { result ≡ first_no (own_questions grid spacing share ledger) }
+// The first of the questions 9 to 12 that is answered no.
+#[tactic(auto, unfolding(crate::specs::Call::own_questions, grid::specs::Answer::first_no, grid::specs::Answer::decide))]
+pub fn own_asked(grid: Grid, share: f64, spacing: Spacing, ledger: Ledger) -> Result<(), Refusal>
+    ensures { answer_of result ≡ decide (first_no (own_questions grid spacing share ledger)) tt }
 {
     if !share::share_in_range(share) {
-        return 9;
+        return Err(Refusal::Share);
     }
     if !spacing::spacing_given(spacing) {
-        return 10;
+        return Err(Refusal::Spacing);
     }
     if !ledger_questions::ledger_in_order(grid, ledger) {
-        return 11;
+        return Err(Refusal::LedgerOrder);
     }
     if !ledger_questions::places_free(ledger, MOST_RADII) {
-        return 12;
+        return Err(Refusal::Places);
     }
-    0
+    Ok(())
 }

@@ -49,3 +49,5 @@ module _ (g : Grid) (km : Float) where
 
     pub widest_down : side_fits g km mid ≡ false → widest low (mid - 1) ≡ widest low high
     widest_down e = sym (halved ∙ rw e)
+
+pub ruleset halving = (widest_whole, widest_none, widest_up, widest_down)

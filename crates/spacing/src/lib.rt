@@ -1,5 +1,5 @@
 // The spacing of the first blocks, given or found for the radius.
-#![tactic(auto)]
+#![tactic(auto, unfolding(crate::specs::Spacing::open_spacings, floats::specs::Binary::open_floats, lists::specs::Counted::max))]
 
 mod side;
 

@@ -1,6 +1,5 @@
 // The side of the first level's blocks: given, or the widest whose slack leaves the wide circles below half the globe.
-ghost use Rattle.std.specs.Prelude.{◌≡◌, ◌&&◌, ◌/◌, min, eqb};
-ghost use Rattle.lists.specs.Counted.{max};
+ghost use Rattle.std.specs.Prelude.{◌≡◌};
 ghost use Rattle.spacing.specs.Spacing.{latitude_extent, longitude_extent, extent_fits, side_fits, widest_side};
 ghost use Rattle.spacing.specs.Spacing.{initial_spacing, spacing_of, spacing_given};
 
@@ -46,31 +45,18 @@ fn extent_fits(grid: Grid, km: f64, rows: u32, cols: u32) -> bool
     floats::next_up(bounds::widened_by(km, slack)) < grid::arc_km(grid, grid::HALF_TURN)
 }
 
-fn half_of_lesser(side: u32, size: u32) -> u32
-    ensures { result ≡ min side size / 2 }
-{
-    if side < size { side / 2 } else { size / 2 }
-}
-
-fn both_zero(rows: u32, cols: u32) -> bool
-    ensures { result ≡ (eqb rows 0 && eqb cols 0) }
-{
-    if rows == 0 { cols == 0 } else { false }
-}
-
 // Whether blocks of a side fit.
 fn side_fits(grid: Grid, km: f64, side: u32) -> bool
     ensures { result ≡ side_fits grid km side }
 {
-    let rows = half_of_lesser(side, grid.height);
-    let cols = half_of_lesser(side, grid.width);
-    if both_zero(rows, cols) {
-        return true;
-    }
-    extent_fits(grid, km, rows, cols)
+    let rows = side.min(grid.height) / 2;
+    let cols = side.min(grid.width) / 2;
+    rows == 0 && cols == 0 || extent_fits(grid, km, rows, cols)
 }
 
-// The side that is found by halves from 1 to the longest.
+// The side that is found by halves from 1 to the longest, as its definition is: no slice holds the sides, so `partition_point` has
+// nothing to ask.
+#[tactic(auto, using(crate::proofs::Sides::halving))]
 fn widest_side(grid: Grid, km: f64, longest: u32) -> u32
     ensures { result ≡ widest_side longest grid km 1 longest }
 {
@@ -88,21 +74,11 @@ fn widest_side(grid: Grid, km: f64, longest: u32) -> u32
     low
 }
 
-fn longest(grid: Grid) -> u32
-    ensures { result ≡ max grid.width grid.height }
-{
-    if grid.width < grid.height {
-        grid.height
-    } else {
-        grid.width
-    }
-}
-
 // The automatic spacing. From half the circumference on every wide circle is the whole grid and nothing is pruned: one block is enough.
 pub fn initial_spacing(grid: Grid, km: f64) -> u32
     ensures { result ≡ initial_spacing grid km }
 {
-    let side = longest(grid);
+    let side = grid.width.max(grid.height);
     if grid::arc_km(grid, grid::HALF_TURN) <= km {
         return side;
     }

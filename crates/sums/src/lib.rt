@@ -31,6 +31,7 @@ pub struct ColSpan {
 
 // The word of a corner: the people above a row and west of a column, either of which may be one past the last. The row's words come first:
 // corners of one row then share where it begins, which an index of the whole table would work out for each.
+#[tactic(auto, using(crate::proofs::Laws::corner_place))]
 pub fn corner(grid: Grid, sums: &[u64], row: u32, col: u32) -> u64
     requires summed { Summed grid sums.now }
     requires at_corner { AtCorner grid row col }
@@ -43,6 +44,7 @@ pub fn corner(grid: Grid, sums: &[u64], row: u32, col: u32) -> u64
 }
 
 // The people of some rows west of a column: two words.
+#[tactic(auto, using(crate::proofs::Laws::corner_rows))]
 pub fn strip(grid: Grid, sums: &[u64], rows: Rows, col: u32) -> u64
     requires summed { Summed grid sums.now }
     requires strip_on_table { StripOnTable grid rows col }
@@ -54,6 +56,7 @@ pub fn strip(grid: Grid, sums: &[u64], rows: Rows, col: u32) -> u64
 }
 
 // The people of some rows from a column to before another: four words.
+#[tactic(auto, using(crate::proofs::Laws::rectangle_cut))]
 fn inland(grid: Grid, sums: &[u64], rows: Rows, west: u32, end: u32) -> u64
     requires summed { Summed grid sums.now }
     requires inland_on_table { InlandOnTable grid rows west end }
@@ -64,6 +67,7 @@ fn inland(grid: Grid, sums: &[u64], rows: Rows, west: u32, end: u32) -> u64
 
 // The people of a band of rows and a span of columns: four words, or six where the seam lies between. A row's words begin at column 0 and do not
 // go round, so such a span is two pieces, the columns from west to the last and those from the first to before end, which have no column in common.
+#[tactic(auto, using(crate::proofs::Laws::rectangle_total, crate::proofs::Bands::band_plain, crate::proofs::Bands::band_seam))]
 pub fn population(grid: Grid, sums: &[u64], band: RowBand, span: ColSpan) -> u64
     requires summed { Summed grid sums.now }
     requires on_table { OnTable grid band span }

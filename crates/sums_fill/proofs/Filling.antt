@@ -1,11 +1,11 @@
 -- The words that filling writes, for every size: those of row 0, and of a next row one by one.
 use mathlib.Core.Path.{◌≡◌, refl, sym, ap, ◌∙◌}
-use mathlib.Core.List.{List, ◌++◌}
+use mathlib.Core.List.{List, [], ◌∷◌, ◌++◌}
 use Prim.Native.Nat.{ℕ, zero, suc, ◌+◌, ◌*◌, ◌/◌, ◌%◌, ◌≤◌, ◌<◌, suc-le-suc}
 use native.Mathlib.Nat.{add_comm, mul_comm, le-add_left, le_refl, le_step, mul-le-mul_right, suc-mul}
 use native.Mathlib.Numerals.{add-one}
 use native.Mathlib.Omega.{arith}
-use lib.ListN.{length, drop, get_or, set}
+use lib.ListN.{length, drop, get_or, set, replicate, replicate-append-replicate}
 use Rattle.lists.specs.Counted.{sum_below}
 use Rattle.lists.specs.Front.{tabulate, over}
 use Rattle.lists.proofs.Sums.{sum_none, sum_zeros}
@@ -25,6 +25,11 @@ module _ {A : Type 0} where
   pub over_ext : (f g : ℕ → A) (n : ℕ) (l : List A) → ((i : ℕ) → i < n → f i ≡ g i) → over f n l ≡ over g n l
   unfolding over
   over_ext f g n l h = ap (λ (xs : List A). xs ++ drop n l) (tabulate_ext f g n h)
+
+  pub tabulate_same : (n : ℕ) (v : A) → tabulate (λ i. v) n ≡ replicate n v
+  unfolding tabulate
+  tabulate_same zero v = refl
+  tabulate_same (suc n) v = ap (λ (xs : List A). xs ++ v ∷ []) (tabulate_same n v) ∙ replicate-append-replicate n 1 v ∙ ap (λ k. replicate k v) (add-one n)
 
 -- ---- a row's cells and words are within the whole
 

@@ -16,17 +16,7 @@ pub fn sums_fit(grid: Grid, sums: &[u64]) -> bool
 {
     let stride = grid.width as usize + 1;
     let rows = grid.height as usize * stride;
-    if rows <= sums.len() {
-        stride <= sums.len() - rows
-    } else {
-        false
-    }
-}
-
-fn wide(x: u32) -> u64
-    ensures { result ≡ x }
-{
-    x as u64
+    rows <= sums.len() && stride <= sums.len() - rows
 }
 
 // The words of row 0: no cell lies above them.
@@ -34,11 +24,7 @@ fn zero_row(sums: &mut [u64], stride: usize)
     requires { stride ≤ length sums.old }
     ensures { sums.new ≡ over (λ i. 0) stride sums.old }
 {
-    let mut k = 0;
-    while k < stride {
-        sums[k] = 0;
-        k += 1;
-    }
+    sums[..stride].fill(0);
 }
 
 // The words of row `row + 1`: each is the word above it and the row's counts so far.
@@ -53,11 +39,9 @@ fn fill_row(grid: Grid, row: usize, counts: &[u32], sums: &mut [u64])
     let from = row * width;
     sums[base] = 0;
     let mut run: u64 = 0;
-    let mut col: usize = 0;
-    while col < width {
-        run += wide(counts[from + col]);
+    for col in 0..width {
+        run += u64::from(counts[from + col]);
         sums[base + 1 + col] = sums[above + 1 + col] + run;
-        col += 1;
     }
 }
 
@@ -68,9 +52,7 @@ pub fn fill_sums(grid: Grid, counts: &[u32], sums: &mut [u64])
 {
     let height = grid.height as usize;
     zero_row(sums, grid.width as usize + 1);
-    let mut row: usize = 0;
-    while row < height {
+    for row in 0..height {
         fill_row(grid, row, counts, sums);
-        row += 1;
     }
 }

@@ -1,12 +1,14 @@
 -- A level on its way through its chunks, over plain values: the definition's outcome so far, its children written, and room for the next.
+use Rattle.std.proofs.Common.{Option}
 use Prim.Native.Nat.{ℕ, zero, suc, ◌+◌, ◌-◌, ◌≤◌, ◌<◌, ◌^◌, min}
-use mathlib.Core.Path.{◌≡◌, refl, sym, ap, subst, ◌∙◌}
+use mathlib.Core.Path.{◌≡◌, refl, sym, ap, ap₂, subst, ◌∙◌}
 use mathlib.Core.List.{List, [], ◌∷◌, ◌++◌, append-nil, append_assoc}
 use native.Mathlib.Omega.{arith}
 use native.Mathlib.Decide.{dec_lt}
 use lib.Ieee.{Float}
 use lib.ListN.{length, take, drop, length-append, drop_of_length-le}
 use lib.Seq.{take_at, drop_at, take_all}
+use Prim.Native.Nat.{max as greater}
 use Rattle.lists.specs.Counted.{max, div_ceil}
 use Rattle.lists.specs.Lists.{fold, each, concat_each, pieces}
 use Rattle.lists.proofs.Folds.{fold_append, each_append, length_each, concat_append, concat_snoc}
@@ -18,11 +20,12 @@ use Rattle.blocks.specs.declared.Block.{Block}
 use Rattle.blocks.specs.Block.{area, split, Rectangle}
 use Rattle.blocks.specs.State.{word_of, blocks_of, Written}
 use Rattle.blocks.proofs.Tiles.{length_area}
-use Rattle.candidates.specs.declared.Held.{Held}
+use Rattle.candidates.specs.declared.Candidate.{Candidate}
+use Rattle.candidates.specs.Candidate.{better_held}
 use Rattle.levels.specs.declared.ChunkResult.{ChunkResult}
 use Rattle.levels.specs.Level.{chunk, chunks, joined, level_in_order}
 use Rattle.chunk_work.specs.Work.{Outcome}
-use Rattle.tally.specs.Counts.{stats, tally}
+use Rattle.tally.specs.Counts.{stats, tally, plus}
 use Rattle.levels.specs.State.{summed_map, blocks_from, children, Swept, joined_results}
 use Rattle.tally.specs.State.{weight, stats_weight}
 use Rattle.levels.specs.Requires.{most_cells, CanSweep, ChunkWords}
@@ -49,7 +52,7 @@ pieces_out n xs = refl
 
 -- ---- the chunks that are done
 
-module _ (m : Map) (km : Float) (best : Held) where
+module _ (m : Map) (km : Float) (best : Option Candidate) where
   abbrev g : Grid
   g = m.globe.grid
 
@@ -88,7 +91,7 @@ blocks_count current n words = ap (length {A = Block}) (sym (span_first current 
 pub blocks_few : (g : Grid) (current : List ℕ) (n : ℕ) (following : List ℕ) → n ≤ length current → CanSweep g (blocks_of n current) following 0 → n ≤ most_cells
 blocks_few g current n following words can = omega (arith, blocks_count current n words, length_area g can.rectangles, can.narrow)
 
-module _ (gr : Grid) (angles cosines : List Float) (sums : List ℕ) (current : List ℕ) (n : ℕ) (km : Float) (best : Held) (following₀ : List ℕ) (size : ℕ) where
+module _ (gr : Grid) (angles cosines : List Float) (sums : List ℕ) (current : List ℕ) (n : ℕ) (km : Float) (best : Option Candidate) (following₀ : List ℕ) (size : ℕ) where
   abbrev the_map : Map
   the_map = summed_map gr angles cosines sums
 
@@ -105,10 +108,12 @@ module _ (gr : Grid) (angles cosines : List Float) (sums : List ℕ) (current : 
     pub swept : Swept (joined_up the_map km best done) following₀ 0 following r
 
   module _ (size_is : size ≡ div_ceil n (max 1 (min 4 n))) (words : n ≤ length current) (can : CanSweep gr blocks following₀ 0) where
-    pub level_start : Leveling following₀ (record { held = best; tally = tally (stats 1 0 0 0 0) 0 0; live = 0 }) 0
+    pub level_start : Leveling following₀ (record { held = best; tally = tally (stats 1 0 0 0 0) 0 0; live = 0 }) (min 0 n)
     unfolding chunks fold each concat_each
     level_start =
-        record {
+        let none : min 0 n ≡ 0 = omega arith in
+        rw none
+        (record {
           place = omega arith;
           room = refl;
           done = [];
@@ -116,17 +121,21 @@ module _ (gr : Grid) (angles cosines : List Float) (sums : List ℕ) (current : 
           cut = rw (span_first current n, blocks_count current n words, ← size_is);
           whole = sym (span_none current 0);
           swept = record { held = refl; counts = refl; written = written_nothing following₀ 0 };
-        }
+        })
 
-    module _ (following : List ℕ) (r : ChunkResult) (start : ℕ) (s : Leveling following r start) where
+    -- a turn
+    module _ (following : List ℕ) (r : ChunkResult) (start : ℕ) (sofar : Leveling following r (min start n)) (h : start < n) where
+      s : Leveling following r start
+      s = let e : min start n ≡ start = omega arith in subst (Leveling following r) e sofar
+
       done_all : AllOf (Rectangle gr) (concat_each (λ p. p) s.done)
       done_all =
           rw s.whole
           (all_left (blocks_from 0 start current) (blocks_from start n current)
           (rw (sym (span_cut current 0 start n (omega arith) s.place) ∙ span_first current n) can.rectangles))
 
-      module _ (end : ℕ) (end_is : end ≡ min (start + size) n) (h : start < n) where
-        pub level_on : start < end
+      module _ (end : ℕ) (end_is : end ≡ min (start + size) n) where
+        level_on : start < end
         level_on = omega (arith, chunks_enough n)
 
         to : end ≤ n
@@ -243,9 +252,10 @@ module _ (gr : Grid) (angles cosines : List Float) (sums : List ℕ) (current : 
                 can.room,
               )
 
-          pub level_next : Leveling following' (joined_results r part) end
+          pub level_next : (step : ℕ) → step ≡ greater size 1 → Leveling following' (joined_results r part) (min (start + step) n)
           unfolding joined_results joined
-          level_next =
+          level_next step step_is =
+              let on : min (start + step) n ≡ end = omega (arith, chunks_enough n) in
               let count = length-append s.done (next ∷ []) in
               let old = each word_of (children before) in
               let new = each word_of (children (chunk the_map km best next)) in
@@ -253,7 +263,8 @@ module _ (gr : Grid) (angles cosines : List Float) (sums : List ℕ) (current : 
               let all_words : old ++ new ≡ each word_of (children (joined_up the_map km best (s.done ++ next ∷ []))) =
               sym (each_append word_of (children before) (children (chunk the_map km best next)))
               ∙ ap (each word_of) (sym (children_join the_map km best before (chunk the_map km best next)) ∙ ap (λ (o : Outcome). children o) (sym more)) in
-              record {
+              rw on
+              (record {
                 place = to;
                 room = written_size following following' r.live part.live new (omega (arith, words_fit, live_is, length_each word_of (children before), s.room)) swept.written ∙ s.room;
                 done = s.done ++ next ∷ [];
@@ -262,18 +273,19 @@ module _ (gr : Grid) (angles cosines : List Float) (sums : List ℕ) (current : 
                 whole =
                     concat_snoc (λ p. p) s.done next ∙ ap (λ (x : List Block). x ++ next) s.whole ∙ sym (span_cut current 0 start end (omega arith) (omega (arith, level_on)));
                 swept = record {
-                  held = rw (more, s.swept.held, swept.held);
-                  counts = rw (more, s.swept.counts, swept.counts);
+                  held = rw more (ap₂ better_held s.swept.held swept.held);
+                  counts = rw more (ap₂ plus s.swept.counts swept.counts);
                   written =
                       subst (λ (x : List ℕ). Written following₀ 0 x following' part.live) all_words
                       (written_then following₀ following following' 0 r.live part.live old new (omega (arith, words_fit)) s.swept.written swept.written);
                 };
-              }
+              })
 
+    module _ (following : List ℕ) (r : ChunkResult) (start : ℕ) (s : Leveling following r (min start n)) where
       pub level_done : n ≤ start → Swept (level_in_order the_map km best blocks) following₀ 0 following r
       unfolding level_in_order
       level_done h =
-          let e : start ≡ n = omega (arith, s.place) in
+          let e : min start n ≡ n = omega arith in
           let all : s.done ≡ chunks blocks =
           sym (append-nil s.done) ∙ ap (λ (x : List (List Block)). s.done ++ x)
           (sym (pieces_none (4 - length s.done) size) ∙ ap (pieces (4 - length s.done) size) (sym (span_none current n) ∙ ap (λ (k : ℕ). blocks_from k n current) (sym e)))

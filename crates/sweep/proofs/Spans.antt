@@ -5,6 +5,7 @@ use mathlib.Core.List.{List, [], ◌∷◌, ◌++◌}
 use native.Mathlib.Omega.{arith}
 use native.Mathlib.Nat.{add-zero}
 use lib.ListN.{length, take, drop, get_or, length-drop}
+use Rattle.std.proofs.lemmas.List.{get_or-take}
 use lib.Seq.{take-add, drop-drop, take-suc, get_or-drop, length-take-le}
 use Rattle.lists.specs.Lists.{each}
 use Rattle.lists.proofs.Folds.{each_append, length_each}
@@ -49,3 +50,17 @@ module _ (words : List ℕ) where
   pub span_first : (n : ℕ) → blocks_from 0 n words ≡ blocks_of n words
   unfolding blocks_from blocks_of
   span_first n = let e : n - 0 ≡ n = omega arith in rw e
+
+  -- a word of a span, by its place in the buffer
+  module _ (start end k : ℕ) (p : start ≤ end) (q : end ≤ length words) where
+    length_span : length (take (end - start) (drop start words)) ≡ end - start
+    length_span = length-take-le (end - start) (drop start words) (omega (arith, length-drop start words))
+
+    pub word_in : k < length (take (end - start) (drop start words)) → start + k < end
+    word_in h = omega (arith, length_span)
+
+    pub word_past : length (take (end - start) (drop start words)) ≤ k → end ≤ start + k
+    word_past h = omega (arith, length_span)
+
+    pub word_at : k < length (take (end - start) (drop start words)) → get_or (take (end - start) (drop start words)) k 0 ≡ get_or words (start + k) 0
+    word_at h = get_or-take (end - start) (drop start words) k 0 (omega (arith, length_span)) ∙ get_or-drop start words k 0

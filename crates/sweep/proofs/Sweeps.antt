@@ -1,9 +1,11 @@
 -- A chunk on its way through its words, over plain values: the definition's work so far, its children written, and room for the next.
+use Rattle.std.proofs.Common.{Option}
 use Prim.Native.Nat.{ℕ, ◌+◌, ◌/◌, ◌≤◌, ◌<◌}
 use mathlib.Core.Path.{◌≡◌, refl, sym, ap, subst, ◌∙◌}
 use mathlib.Core.Bool.{Bool, true, false, cond}
 use mathlib.Core.List.{List, [], ◌∷◌, ◌++◌, append-nil}
 use native.Mathlib.Omega.{arith}
+use native.Mathlib.Nat.{add-zero}
 use lib.Ieee.{Float}
 use lib.ListN.{length, get_or, length-append}
 use Rattle.lists.specs.Lists.{fold, each, concat_each}
@@ -20,7 +22,6 @@ use Rattle.blocks.specs.Block.{area, split, Rectangle}
 use Rattle.blocks.specs.State.{word_of, block_of, Written}
 use Rattle.pieces.specs.Requires.{CanSplit}
 use Rattle.blocks.proofs.Tiles.{length_area, split_rectangle, split_settled}
-use Rattle.candidates.specs.declared.Held.{Held}
 use Rattle.levels.specs.Level.{examine, started, chunk}
 use Rattle.chunk_work.specs.Work.{Work}
 use Rattle.levels.specs.State.{summed_map, started_work, blocks_from, children, Swept}
@@ -33,10 +34,11 @@ use Rattle.levels.proofs.Rule.{fold_rule}
 use Rattle.levels.proofs.Counts.{ended, Counts, counts_kept, next_fits}
 use Rattle.levels.proofs.OneBlock.{block_small, can_count}
 use Rattle.sweep.proofs.Spans.{span_none, span_cut, span_more}
+use Rattle.candidates.specs.declared.Candidate.{Candidate}
 
 -- ---- what a chunk has come to
 
-module _ (m : Map) (km : Float) (best : Held) where
+module _ (m : Map) (km : Float) (best : Option Candidate) where
   abbrev pub sofar : List Block → Work
   sofar bs = fold (examine m km) (started m km best) bs
 
@@ -86,20 +88,20 @@ children_more false bs b = sym (append-nil (concat_each split bs))
 pub middle_on : (g : Grid) (angles : List Float) → Sheet g angles → OnSheet g angles (record { 0 = g.height / 2 })
 middle_on g angles t = record { sheet = t; on = omega (arith, (grid_sizes g t.sizes).some_rows) }
 
-pub start_held : (g : Grid) (km : Float) (best : Held) (w : ChunkWork) → w ≡ started_work g km best → w.held ≡ best
+pub start_held : (g : Grid) (km : Float) (best : Option Candidate) (w : ChunkWork) → w ≡ started_work g km best → w.held ≡ best
 unfolding started_work
 start_held g km best w e = ap (λ (x : ChunkWork). x.held) e
 
-pub start_own : (g : Grid) (km : Float) (best : Held) (w : ChunkWork) → w ≡ started_work g km best → w ≡ started_work g km w.held
+pub start_own : (g : Grid) (km : Float) (best : Option Candidate) (w : ChunkWork) → w ≡ started_work g km best → w ≡ started_work g km w.held
 start_own g km best w e = e ∙ ap (started_work g km) (sym (start_held g km best w e))
 
-start_same : (m : Map) (km : Float) (best : Held) (w : ChunkWork) → w ≡ started_work m.globe.grid km best → work_of w [] ≡ started m km best
+start_same : (m : Map) (km : Float) (best : Option Candidate) (w : ChunkWork) → w ≡ started_work m.globe.grid km best → work_of w [] ≡ started m km best
 unfolding started_work started
 start_same m km best w e = ap (λ (x : ChunkWork). work_of x []) e
 
 -- ---- the loop
 
-module _ (g : Grid) (angles cosines : List Float) (sums : List ℕ) (current : List ℕ) (start end : ℕ) (km : Float) (best : Held) (following₀ : List ℕ) (live : ℕ) where
+module _ (g : Grid) (angles cosines : List Float) (sums : List ℕ) (current : List ℕ) (start end : ℕ) (km : Float) (best : Option Candidate) (following₀ : List ℕ) (live : ℕ) where
   abbrev m : Map
   m = summed_map g angles cosines sums
 
@@ -114,17 +116,18 @@ module _ (g : Grid) (angles cosines : List Float) (sums : List ℕ) (current : L
     pub written : Written following₀ live (each word_of (children (up_to i).outcome)) following at
 
   module _ (t : Ready g angles cosines sums) (words : ChunkWords current start end) (can : CanSweep g (blocks_from start end current) following₀ live) where
-    pub sweep_start : (w : ChunkWork) → w ≡ started_work g km best → Sweeping following₀ w live start
+    pub sweep_start : (w : ChunkWork) → w ≡ started_work g km best → Sweeping following₀ w live (start + 0)
     unfolding fold each concat_each started
     sweep_start w e =
         let none_yet = sym (span_none current start) in
-        record {
+        rw (add-zero start)
+        (record {
           from = omega arith;
           to = words.order;
           size = refl;
           same = subst (λ (bs : List Block). work_of w (sofar m km best bs).outcome.survivors ≡ sofar m km best bs) none_yet (start_same m km best w e);
           written = subst (λ (bs : List Block). Written following₀ live (each word_of (children (sofar m km best bs).outcome)) following₀ live) none_yet (written_nothing following₀ live);
-        }
+        })
 
     module _ (following : List ℕ) (w : ChunkWork) (at i : ℕ) (s : Sweeping following w at i) where
       module _ (h : i < end) where
@@ -208,14 +211,15 @@ module _ (g : Grid) (angles cosines : List Float) (sums : List ℕ) (current : L
           few true = omega (arith, length_each word_of (split next))
           few false = omega arith
 
-          pub sweep_next : Sweeping following' w' at' (i + 1)
-          sweep_next =
+          pub sweep_next : (on : ℕ) → on ≡ i + 1 → Sweeping following' w' at' on
+          sweep_next on is =
               let old = each word_of (children (up_to i).outcome) in
               let new = each word_of (cond survives (split next) []) in
               let all_words : old ++ new ≡ each word_of (children (up_to (i + 1)).outcome) =
               sym (each_append word_of (children (up_to i).outcome) (cond survives (split next) []))
               ∙ ap (each word_of) (sym (children_more survives (up_to i).outcome.survivors next) ∙ ap (concat_each split) next_survivors) in
-              record {
+              rw is
+              (record {
                 from = omega (arith, s.from);
                 to = omega arith;
                 size = written_size following following' at at' new (omega (arith, sweep_room.room, few survives)) wrote ∙ s.size;
@@ -223,7 +227,7 @@ module _ (g : Grid) (angles cosines : List Float) (sums : List ℕ) (current : L
                 written =
                     subst (λ (x : List ℕ). Written following₀ live x following' at') all_words
                     (written_then following₀ following following' live at at' old new (omega (arith, children_fit, few survives)) s.written wrote);
-              }
+              })
 
       pub sweep_done : end ≤ i → Swept (chunk m km best (blocks_from start end current)) following₀ live following (record { held = w.held; tally = w.tally; live = at })
       unfolding chunk

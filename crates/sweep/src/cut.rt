@@ -8,13 +8,13 @@ ghost use Rattle.tally.specs.State.{weight};
 ghost use Rattle.levels.specs.Requires.{Ready, CanSweep};
 
 use crate::sweep;
-use candidates::Held;
+use candidates::Candidate;
 use grid::Grid;
 use levels::ChunkResult;
 use tally::{SearchStats, Tally};
 
 // A level before its first chunk.
-fn begun(best: Held) -> ChunkResult
+fn begun(best: Option<Candidate>) -> ChunkResult
     ensures { result ≡ record { held = best; tally = tally (stats 1 0 0 0 0) 0 0; live = 0 } }
 {
     let stats = SearchStats::of(1, 0, 0, 0, 0);
@@ -27,6 +27,7 @@ fn begun(best: Held) -> ChunkResult
 }
 
 // The better of what two hold, their counts added, and the place after the second's children.
+#[tactic(auto, unfolding(levels::specs::State::joined_results))]
 fn joined(a: ChunkResult, b: ChunkResult) -> ChunkResult
     requires { weight a.tally + weight b.tally ≤ 2 ^ 31 }
     ensures { result ≡ joined_results a b }
@@ -55,7 +56,7 @@ pub fn level(
     current: &[u64],
     n: usize,
     km: f64,
-    best: Held,
+    best: Option<Candidate>,
     following: &mut [u64],
 ) -> ChunkResult
     requires ready { Ready grid angles.now cosines.now sums.now }
@@ -67,15 +68,14 @@ pub fn level(
 {
     let size = chunk_work::chunk_size(n);
     let mut done = begun(best);
-    let mut start: usize = 0;
-    while start < n {
+    // No blocks have chunks of no size, which nothing can step by.
+    for start in (0..n).step_by(size.max(1)) {
         let end = chunk_work::chunk_end(start, size, n);
         let live = done.live;
         let part = sweep::chunk(
             grid, angles, cosines, sums, current, start, end, km, best, following, live,
         );
         done = joined(done, part);
-        start = end;
     }
     done
 }

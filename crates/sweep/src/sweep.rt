@@ -9,7 +9,7 @@ ghost use Rattle.levels.specs.State.{summed_map, started_work, blocks_from, Swep
 ghost use Rattle.levels.specs.Requires.{Ready, CanSweep, ChunkWords};
 
 use blocks::Block;
-use candidates::Held;
+use candidates::Candidate;
 use chunk_work::ChunkWork;
 use grid::{Grid, Row};
 use kernel_sums::circle_population;
@@ -17,7 +17,8 @@ use levels::ChunkResult;
 use tally::{SearchStats, Tally};
 
 // A chunk begins with what was held when its level began, and with two kernels that count as built: of the middle row and the plain radius.
-fn started(grid: Grid, km: f64, best: Held) -> ChunkWork
+#[tactic(auto, unfolding(levels::specs::State::started_work))]
+fn started(grid: Grid, km: f64, best: Option<Candidate>) -> ChunkWork
     ensures { result ≡ started_work grid km best }
 {
     let middle = Row(grid.height / 2);
@@ -47,9 +48,11 @@ fn write_children(survives: bool, block: Block, following: &mut [u64], at: usize
 fn result_of(work: ChunkWork, live: usize) -> ChunkResult
     ensures { result ≡ record { held = work.held; tally = work.tally; live = live } }
 {
-    let held = work.held;
-    let tally = work.tally;
-    ChunkResult { held, tally, live }
+    ChunkResult {
+        held: work.held,
+        tally: work.tally,
+        live,
+    }
 }
 
 // The blocks of the words from start up to end, examined in turn. Three kernels stay in place from block to block, two wide ones and an
@@ -64,7 +67,7 @@ pub(crate) fn chunk(
     start: usize,
     end: usize,
     km: f64,
-    best: Held,
+    best: Option<Candidate>,
     following: &mut [u64],
     live: usize,
 ) -> ChunkResult
@@ -82,9 +85,8 @@ pub(crate) fn chunk(
     let mut two_shape = one_shape;
     let mut work = started(grid, km, best);
     let mut at = live;
-    let mut i = start;
-    while i < end {
-        let block = blocks::from_word(current[i]);
+    for word in &current[start..end] {
+        let block = Block::from(*word);
         let p = blocks::probe(block);
         let mut wide = km;
         let mut bound: u64 = 0;
@@ -106,7 +108,7 @@ pub(crate) fn chunk(
         let survives = chunk_work::survives(work, bound);
         let mut population = bound;
         if chunk_work::asks(survives, wide, km) {
-            if !chunk_work::same_row(exact.row, p.row) {
+            if exact.row != p.row {
                 exact = kernel::build(grid, angles, p.row, km);
             }
             population = circle_population(
@@ -121,7 +123,6 @@ pub(crate) fn chunk(
         }
         work = chunk_work::examined(work, block, wide, survives, population);
         at = write_children(survives, block, following, at);
-        i += 1;
     }
     result_of(work, at)
 }

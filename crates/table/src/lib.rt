@@ -35,6 +35,7 @@ pub fn population<'a>(table: Table<'a>, band: RowBand, span: ColSpan) -> u64
 }
 
 // The people of the whole extent: the last corner.
+#[tactic(auto, unfolding(sums::specs::Sums::total))]
 pub fn whole<'a>(table: Table<'a>) -> u64
     requires { Summed table.grid table.sums.now }
     ensures { result ≡ total (table_map table.entry.grid table.entry.sums.now) }
@@ -63,6 +64,7 @@ pub fn whole_at(grid: Grid, sums: &[u64]) -> u64
 }
 
 // Half the width and more: every column. Asked by the sum, from which the compiler knows, where it is no full turn, how a span's ends lie.
+#[tactic(auto, unfolding(grid::specs::Grid::closing))]
 fn full_turn(grid: Grid, half: u32) -> bool
     requires { half < 2 ^ 31 }
     ensures { result ≡ leb (closing grid) half }
@@ -73,6 +75,7 @@ fn full_turn(grid: Grid, half: u32) -> bool
 // The people of a band's columns at most `half` from the centre column around the ring: those of a span, asked of the table. A full turn is no
 // span: its columns are counted once, by a strip that is read straight. The cases ask each for itself: so the compiler sees in each whether the
 // seam lies between the ends, and `population` does not test for it again, as it would if the ends were chosen first.
+#[tactic(auto, using(crate::proofs::Around::around), unfolding(grid::specs::Grid::closing))]
 pub fn band_span(grid: Grid, sums: &[u64], band: RowBand, centre: Col, half: u32) -> u64
     requires summed { Summed grid sums.now }
     requires in_table { InTable grid band centre half }

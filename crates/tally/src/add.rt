@@ -34,6 +34,7 @@ impl Tally {
 }
 
 // Each count of two searches added.
+#[tactic(auto, unfolding(crate::specs::Counts::plus_stats, crate::specs::State::stats_weight))]
 pub fn plus_stats(s: SearchStats, t: SearchStats) -> SearchStats
     requires { stats_weight s + stats_weight t ≤ 2 ^ 31 }
     ensures { result ≡ plus_stats s t }
@@ -48,15 +49,13 @@ pub fn plus_stats(s: SearchStats, t: SearchStats) -> SearchStats
 }
 
 // The same with the cells pruned and settled.
+#[tactic(auto, unfolding(crate::specs::Counts::plus, crate::specs::State::weight))]
 pub fn plus(s: Tally, t: Tally) -> Tally
     requires { weight s + weight t ≤ 2 ^ 31 }
     ensures { result ≡ plus s t }
 {
-    let a = s.stats;
-    let b = t.stats;
-    let stats = plus_stats(a, b);
     Tally::of(
-        stats,
+        plus_stats(s.stats, t.stats),
         s.cells_pruned + t.cells_pruned,
         s.cells_settled + t.cells_settled,
     )

@@ -3,7 +3,6 @@ use crate::{ledgers, print};
 use candidates::Candidate;
 use grid::{Cell, Col, Grid, RadiusKm, Row};
 use ledger::Entry;
-use put::PutAnswer;
 use std::io;
 use test_cases::Map;
 
@@ -41,8 +40,8 @@ fn by_lending(grid: Grid, line: &[u64], before: &[u64], after: &mut [u64]) -> u3
     let answer = result.answer;
     words::write_ledger(result.ledger, after);
     match answer {
-        PutAnswer::Done => 0,
-        PutAnswer::Refused(n) => n,
+        Ok(()) => 0,
+        Err(refusal) => refusal.number(),
     }
 }
 

@@ -12,30 +12,22 @@ use ledger::{Entry, Ledger};
 // The number of words of a ledger: the number of entries, and four of each place.
 pub const LEDGER_WORDS: usize = 1 + 4 * Ledger::CAPACITY;
 
-// The numbers below this one fit 32 bits.
-const BEYOND_32_BITS: u64 = 4294967296;
-
 // Whether a word is a number of 32 bits.
 fn fits(word: u64) -> bool
     ensures { result ≡ ltb word (2 ^ 32) }
 {
-    word < BEYOND_32_BITS
+    word <= u64::from(u32::MAX)
 }
 
 // Whether kilometre, row and column of place i fit their 32 bits.
+#[tactic(auto, unfolding(crate::specs::Words::place_fits))]
 fn place_fits(words: &[u64], i: usize) -> bool
     requires words_len { length words.now ≡ ledger_length }
     requires i_lt_capacity { i < capacity }
     ensures { result ≡ place_fits words.now i }
 {
     let at = 1 + 4 * i;
-    if !fits(words[at]) {
-        return false;
-    }
-    if !fits(words[at + 1]) {
-        return false;
-    }
-    fits(words[at + 2])
+    fits(words[at]) && fits(words[at + 1]) && fits(words[at + 2])
 }
 
 // Whether these are the words of a ledger.
@@ -45,12 +37,10 @@ fn ledger_fits(words: &[u64]) -> bool
     if words.len() != LEDGER_WORDS {
         return false;
     }
-    let mut i: usize = 0;
-    while i < Ledger::CAPACITY {
+    for i in 0..Ledger::CAPACITY {
         if !place_fits(words, i) {
             return false;
         }
-        i += 1;
     }
     true
 }
@@ -83,10 +73,8 @@ fn read_ledger(words: &[u64]) -> Ledger
 {
     let mut ledger = ledger::fresh();
     ledger.len = words[0] as usize;
-    let mut i: usize = 0;
-    while i < Ledger::CAPACITY {
+    for i in 0..Ledger::CAPACITY {
         ledger.places[i] = place_at(words, i);
-        i += 1;
     }
     ledger
 }
@@ -105,15 +93,18 @@ pub fn ledger_of(words: &[u64]) -> Ledger
 }
 
 // The four words of an entry, from word at on.
+#[tactic(auto, unfolding(crate::specs::Words::entry_words))]
 fn write_place(words: &mut [u64], at: usize, entry: Entry)
     requires { at + 3 < length words.old }
     ensures { words.new ≡ take at words.old ++ entry_words entry ++ drop (at + 4) words.old }
 {
     let centre = entry.centre;
-    words[at] = entry.km.0 as u64;
-    words[at + 1] = centre.row.0 as u64;
-    words[at + 2] = centre.col.0 as u64;
-    words[at + 3] = centre.population;
+    words[at..at + 4].copy_from_slice(&[
+        u64::from(entry.km.0),
+        u64::from(centre.row.0),
+        u64::from(centre.col.0),
+        centre.population,
+    ]);
 }
 
 // The words of a ledger, written over those lent. The number of entries comes last, so that the loop starts from the words as they were lent.
@@ -121,11 +112,8 @@ pub fn write_ledger(ledger: Ledger, words: &mut [u64])
     requires { length words.old ≡ ledger_length }
     ensures { words.new ≡ ledger_words ledger }
 {
-    let mut i: usize = 0;
-    while i < Ledger::CAPACITY {
-        let entry = ledger.places[i];
-        write_place(words, 1 + 4 * i, entry);
-        i += 1;
+    for (i, entry) in ledger.places.iter().enumerate() {
+        write_place(words, 1 + 4 * i, *entry);
     }
     words[0] = ledger.len as u64;
 }

@@ -1,11 +1,7 @@
--- Below the infinity, and above its negation.
-use lib.Ieee.{neg}
-use Rattle.floats.proofs.Finite.{finite_within}
+-- What the library's method ensures.
+use mathlib.Core.Path.{◌∙◌}
+use Rattle.floats.proofs.Finite.{finite_is}
 use Rattle.floats.proofs.is_finite.Goals as goal
 
-pub returns-then-x-top : goal.returns-then-x-top
-unfolding neg
-returns-then-x-top c = let h = rw c.infinity-top.ensures at c.if-x-top.true in rw (c.infinity-top.ensures, finite_within, h)
-
-pub returns-else-x-top : goal.returns-else-x-top
-returns-else-x-top c = let h = rw c.infinity-top.ensures at c.if-x-top.false in rw (finite_within, h)
+pub returns : goal.returns
+returns c = c.is_finite.ensures.value ∙ finite_is c.args.x

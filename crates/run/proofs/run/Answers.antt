@@ -6,7 +6,7 @@ use Rattle.probes.specs.State.{probe_count}
 use Rattle.probes.proofs.Probes.{ProbedTo, after_reuse, after_search}
 use Rattle.run.proofs.RunLoop.{Looping, loop_starts, loop_reuses, loop_puts, loop_evaluates, loop_fits, loop_goes_on, loop_falls, loop_ends}
 use Rattle.run.proofs.run.Goals as goal
-use Rattle.run.proofs.run.Goals.{After-next-bracket, in-Circle, in-Nothing}
+use Rattle.run.proofs.run.Goals.{After-next-bracket, in-Some, in-None}
 
 pub loop-grid-init : goal.loop-grid-init
 loop-grid-init c = (loop_starts c.requires c.args.spacing c.begun-state.ensures c.start-bracket.ensures, refl, refl)
@@ -14,7 +14,7 @@ loop-grid-init c = (loop_starts c.requires c.args.spacing c.begun-state.ensures 
 pub reused-state-requires : goal.reused-state-requires
 reused-state-requires c =
     loop_reuses c.requires c.args.spacing c.loop-grid.invariant.0 (sym c.closed.ensures ∙ c.loop-grid-test.true) c.radius-km.result.0
-    (sym c.get.ensures ∙ c.in-Circle.is)
+    (sym c.get.ensures ∙ c.in-Some.is)
 
 pub put-held-requires : goal.put-held-requires
 put-held-requires c =
@@ -38,9 +38,9 @@ next c =
     let j = c.match-get in
     let probed : ProbedTo (summed_map a.grid a.angles.now a.cosines.now a.sums.now) a.spacing a.target.persons a.slack h.held h.state c.radius-km.result.0 j.held j.state =
     elim j.branch [
-      | in-Circle w ↦ after_reuse _ _ _ _ _ _ _ (sym c.get.ensures ∙ w.in-Circle.is) w.held-is (w.state-is ∙ w.reused-state.ensures)
-      | in-Nothing w ↦
-          after_search _ _ _ _ _ _ _ (sym c.get.ensures ∙ w.in-Nothing.is) w.search_at-found.ensures w.entry_of.ensures (w.held-is ∙ w.put-held.ensures)
+      | in-Some w ↦ after_reuse _ _ _ _ _ _ _ (sym c.get.ensures ∙ w.in-Some.is) w.held-is (w.state-is ∙ w.reused-state.ensures)
+      | in-None w ↦
+          after_search _ _ _ _ _ _ _ (sym c.get.ensures ∙ w.in-None.is) w.search_at-found.ensures w.entry_of.ensures (w.held-is ∙ w.put-held.ensures)
           (w.state-is ∙ w.evaluated-state.ensures)
     ] in
     loop_goes_on c.requires a.spacing h.invariant.0 (sym c.closed.ensures ∙ c.loop-grid-test.true) c.radius-km.ensures probed c.next-bracket.ensures

@@ -2,7 +2,6 @@
 use Prim.Native.Nat.{ℕ, ◌+◌, ◌*◌, ◌-◌, ◌<◌}
 use mathlib.Core.Path.{◌≡◌, ap, ◌∙◌}
 use mathlib.Core.List.{List}
-use native.Mathlib.Nat.{le_refl}
 use native.Mathlib.Omega.{arith}
 use lib.ListN.{length, take, drop, get_or, length-drop}
 use lib.Seq.{get_or-drop}
@@ -24,23 +23,11 @@ part_place xs a k h = rw (part_to_end xs a, length-drop a xs) (omega arith)
 part_read : (xs : List ℕ) (a k : ℕ) → get_or (take (length xs - a) (drop a xs)) k 0 ≡ get_or xs (a + k) 0
 part_read xs a k = ap (λ (l : List ℕ). get_or l k 0) (part_to_end xs a) ∙ get_or-drop a xs k 0
 
-pub overflow_mul-from : goal.overflow_mul-from
-overflow_mul-from c = omega (arith, within (goal.at.overflow_mul-from c).Start, c.requires.summed.room)
-
-pub offset_bounds-sums-from : goal.offset_bounds-sums-from
-offset_bounds-sums-from c = omega (arith, within (goal.at.offset_bounds-sums-from c).Start, c.requires.summed.room)
-
 pub slice_bounds-words-count : goal.slice_bounds-words-count
 slice_bounds-words-count c = omega (arith, within (goal.at.slice_bounds-words-count c).Start, c.requires.summed.room)
 
 pub slice_bounds-words-start : goal.slice_bounds-words-start
 slice_bounds-words-start c = omega (arith, within (goal.at.slice_bounds-words-start c).Start, c.requires.summed.room)
-
-pub slice_bounds-words-end : goal.slice_bounds-words-end
-slice_bounds-words-end c = le_refl _
-
-pub offset_bounds-words-col : goal.offset_bounds-words-col
-offset_bounds-words-col c = omega (arith, within (goal.at.offset_bounds-words-col c).Start, c.requires.summed.room)
 
 pub bounds-words-col : goal.bounds-words-col
 bounds-words-col c = part_place c.args.sums.now _ c.args.col (omega (arith, within (goal.at.bounds-words-col c).Start, c.requires.summed.room))

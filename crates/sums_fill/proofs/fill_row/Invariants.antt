@@ -1,7 +1,7 @@
 -- `sums_fill::fill_row`. Invariant: the words up to the next of the row are the map's, and the run is the sum of the row so far.
 use mathlib.Core.Path.{◌≡◌}
-use Prim.Native.Nat.{◌+◌, ◌*◌, ◌-◌, ◌≤◌}
-use lib.ListN.{length, get_or}
+use Prim.Native.Nat.{◌+◌, ◌*◌}
+use lib.ListN.{get_or}
 use Rattle.lists.specs.Counted.{sum_below}
 use Rattle.lists.specs.Front.{over}
 use Rattle.sums_fill.proofs.Filling.{word_of}
@@ -9,7 +9,4 @@ use Rattle.sums_fill.proofs.fill_row.Given as goal
 
 abbrev pub invariant-loop-col : goal.invariant-loop-col
 invariant-loop-col l =
-    (l.col ≤ l.width) × (length l.sums ≡ length l.initial.sums) × (l.run ≡ sum_below l.col (λ k. get_or l.counts (l.row * l.width + k) 0)) × (l.sums ≡ over (word_of l.width l.counts) (l.base + 1 + l.col) l.initial.sums)
-
-abbrev pub decreases-loop-col : goal.decreases-loop-col
-decreases-loop-col l = l.width - l.col
+    (l.run ≡ sum_below l.col (λ k. get_or l.counts (l.row * l.width + k) 0)) × (l.sums ≡ over (word_of l.width l.counts) (l.base + 1 + l.col) l.initial.sums)

@@ -1,8 +1,7 @@
--- `chunk_work::work::asks`: a survivor by the radii, no other.
+-- A survivor by the radii.
+use lib.Ieee.{ne}
 use Rattle.chunk_work.proofs.work.asks.Goals as goal
 
 pub returns-then-survives : goal.returns-then-survives
-returns-then-survives c = rw (c.if-survives.true, c.same_radius.ensures)
-
-pub returns-else-survives : goal.returns-else-survives
-returns-else-survives c = rw c.if-survives.false
+unfolding ne
+returns-then-survives c = rw c.if-survives.true

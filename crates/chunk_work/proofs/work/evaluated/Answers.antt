@@ -1,9 +1,9 @@
 -- `chunk_work::work::evaluated`: the block and its circle counted, a cell that is settled, and the better of what is held and the probe.
+use Rattle.std.proofs.Common.{Some}
 use Prim.Native.Nat.{ℕ, ◌+◌, ◌≤◌}
 use mathlib.Core.Path.{ap, ap₂, ◌∙◌}
 use native.Mathlib.Omega.{arith}
 use Rattle.candidates.specs.declared.Candidate.{Candidate}
-use Rattle.candidates.specs.declared.Held.TheVariants.{Best}
 use Rattle.candidates.specs.Candidate.{better_held}
 use Rattle.tally.specs.declared.SearchStats.{SearchStats}
 use Rattle.tally.specs.Counts.{stats, tally, plus}
@@ -30,7 +30,7 @@ pub returns : goal.returns
 returns c =
     let a = c.args in
     let probe = c.probe-probe.ensures in
-    evaluated_is a.work a.block a.wide a.population _ _ _ probe (c.better_held-held.ensures ∙ ap (λ (x : Candidate). better_held a.work.held (Best x)) c.at.ensures)
+    evaluated_is a.work a.block a.wide a.population _ _ _ probe (c.better_held-held.ensures ∙ ap (λ (x : Candidate). better_held a.work.held (Some x)) c.at.ensures)
     (c.plus-tally.ensures
     ∙ ap (plus a.work.tally)
     (c.of-more.ensures

@@ -1,54 +1,41 @@
 -- `most_populous::call::search_asked`: one question after another.
-use mathlib.Core.Path.{◌≡◌, sym, ◌∙◌}
-use mathlib.Core.Bool.{true}
-use native.Mathlib.Omega.{arith}
-use Rattle.grid.specs.Map.{lent_map}
-use Rattle.grid.specs.Answer.{first_no}
-use Rattle.grid.specs.Questions.{map_questions}
+use Rattle.std.proofs.Common.{rules, sym, ◌∙◌}
+use Rattle.most_populous.specs.Call.{search_questions}
 use Rattle.grid.proofs.General.{said_no, said_yes}
-use Rattle.grid.proofs.Answers.{asked_yes, asked_no, asked_none, refused_before, after_map}
-use Rattle.grid.proofs.Found.{radius_within}
-use Rattle.grid.proofs.Radii.{within_range, beyond_range, radius_left, refusal_left}
-use Rattle.most_populous.specs.Call.{buffers_fit, search_questions}
+use Rattle.grid.proofs.Answers.{says_yes, says_no, says_all, refused_stands, past_map}
+use Rattle.grid.proofs.Found.{radius_is}
+use Rattle.grid.proofs.Radii.{within_range, beyond_range}
 use Rattle.most_populous.proofs.call.search_asked.Goals as goal
-use Rattle.most_populous.proofs.call.search_asked.Goals.{Else-refusal-ne0, Else-not-buffers_fit}
 
-map-yes : (e : Else-refusal-ne0) → let a = e.args in first_no (map_questions (lent_map a.grid a.counts.now a.angles.now a.cosines.now)) ≡ 0
-map-yes e = sym e.map_refusal-refusal.ensures ∙ e.if-refusal-ne0.false
-
-fits : (e : Else-not-buffers_fit) → let a = e.args in
-    buffers_fit a.grid (record { sums = a.sums.now; current = a.current.now; following = a.following.now }) ≡ true
-fits e = said_yes e.buffers_fit.ensures e.if-not-buffers_fit.false
-
-pub returns-then-refusal-ne0 : goal.returns-then-refusal-ne0
+pub returns-in_err-map_asked : goal.returns-in_err-map_asked
 unfolding search_questions
-returns-then-refusal-ne0 c = refusal_left _ _ _ (refused_before _ _ c.map_refusal-refusal.ensures c.if-refusal-ne0.true) c.if-refusal-ne0.true
+returns-in_err-map_asked c = search (rules, refused_stands)
 
 pub returns-then-not-buffers_fit : goal.returns-then-not-buffers_fit
 unfolding search_questions
 returns-then-not-buffers_fit c =
-    refusal_left 7 _ _ (after_map _ _ (map-yes (goal.at.returns-then-not-buffers_fit c).Else-refusal-ne0) (asked_no _ (said_no c.buffers_fit.ensures c.if-not-buffers_fit.true)))
-    (λ z. omega (arith, z))
+    past_map _ _ _ c.in_ok-map_asked.ensures (says_no _ 6 _ (said_no c.buffers_fit.ensures c.if-not-buffers_fit.true))
+
+pub returns-in_default : goal.returns-in_default
+unfolding search_questions
+returns-in_default c =
+    past_map _ _ _ c.in_ok-map_asked.ensures
+    (says_yes _ 7 _ (said_yes c.buffers_fit.ensures c.if-not-buffers_fit.false)
+    (says_no _ 7 _ (beyond_range _ _ (sym c.new.ensures ∙ c.in_default.is))))
 
 pub returns-then-not-spacing_given : goal.returns-then-not-spacing_given
 unfolding search_questions
 returns-then-not-spacing_given c =
-    refusal_left 10 _ _
-    (after_map _ _ (map-yes (goal.at.returns-then-not-spacing_given c).Else-refusal-ne0)
-    (asked_yes 7 _ (fits (goal.at.returns-then-not-spacing_given c).Else-not-buffers_fit) (asked_yes 8 _ (within_range _ _ _ (sym c.new.ensures ∙ c.in-Within.is)) (asked_no _ (said_no c.spacing_given.ensures c.if-not-spacing_given.true)))))
-    (λ z. omega (arith, z))
+    past_map _ _ _ c.in_ok-map_asked.ensures
+    (says_yes _ 7 _ (said_yes c.buffers_fit.ensures c.if-not-buffers_fit.false)
+    (says_yes _ 8 _ (within_range _ _ _ (sym c.new.ensures ∙ c.in-Some.is))
+    (says_no _ 9 _ (said_no c.spacing_given.ensures c.if-not-spacing_given.true))))
 
-pub returns-in-Beyond : goal.returns-in-Beyond
+pub returns : goal.returns
 unfolding search_questions
-returns-in-Beyond c =
-    refusal_left 8 _ _
-    (after_map _ _ (map-yes (goal.at.returns-in-Beyond c).Else-refusal-ne0) (asked_yes 7 _ (fits (goal.at.returns-in-Beyond c).Else-not-buffers_fit) (asked_no _ (beyond_range _ _ (sym c.new.ensures ∙ c.in-Beyond.is)))))
-    (λ z. omega (arith, z))
-
-pub returns-else-not-spacing_given : goal.returns-else-not-spacing_given
-unfolding search_questions
-returns-else-not-spacing_given c =
-    radius_left _ _ _
-    (after_map _ _ (map-yes (goal.at.returns-else-not-spacing_given c).Else-refusal-ne0)
-    (asked_yes 7 _ (fits (goal.at.returns-else-not-spacing_given c).Else-not-buffers_fit) (asked_yes 8 _ (within_range _ _ _ (sym c.new.ensures ∙ c.in-Within.is)) (asked_yes 10 _ (said_yes c.spacing_given.ensures c.if-not-spacing_given.false) asked_none))))
-    (radius_within _ _ _ (sym c.new.ensures ∙ c.in-Within.is)).1
+returns c =
+    past_map _ _ _ c.in_ok-map_asked.ensures
+    (says_yes _ 7 _ (said_yes c.buffers_fit.ensures c.if-not-buffers_fit.false)
+    (says_yes _ 8 _ (within_range _ _ _ (sym c.new.ensures ∙ c.in-Some.is))
+    (says_yes _ 10 _ (said_yes c.spacing_given.ensures c.if-not-spacing_given.false)
+    (says_all _ (radius_is _ _ _ (sym c.new.ensures ∙ c.in-Some.is))))))

@@ -1,12 +1,7 @@
 -- `search::descend::searched`. Invariant: what is left of the levels, from the blocks in the first buffer, is the whole search.
-use Prim.Native.Nat.{◌-◌}
-use mathlib.Core.Path.{◌∙◌}
 use native.Mathlib.Omega.{arith}
 use Rattle.search.proofs.Descents.{descend_start, descend_words, descend_sweeps, descend_light, descend_takes, descend_less, descend_next, descend_done}
 use Rattle.search.proofs.descend.searched.Goals as goal
-
-pub first_level-live-requires : goal.first_level-live-requires
-first_level-live-requires c = c.requires.two_buffers
 
 pub loop-live-init : goal.loop-live-init
 loop-live-init c =
@@ -35,12 +30,6 @@ pub loop-live-preserved : goal.loop-live-preserved
 loop-live-preserved c =
     let i = c.insert_from in
     rw c.with_level-found.ensures (descend_next _ _ _ _ _ _ _ _ c.requires.ready _ _ _ _ c.loop-live.invariant c.loop-live-test.true _ _ c.level-level.ensures c.level-level.auto.following _ i.auto.to i.ensures)
-
-pub shape_of-current : goal.shape_of-current
-shape_of-current c = c.loop-live.invariant.current_size ∙ c.first_level-live.auto.current
-
-pub shape_of-following : goal.shape_of-following
-shape_of-following c = c.loop-live.invariant.following_size ∙ c.first_level-live.auto.following
 
 pub returns : goal.returns
 returns c = descend_done _ _ _ _ _ _ _ _ c.requires.ready _ _ _ _ c.loop-live.invariant c.loop-live-test.false

@@ -12,7 +12,4 @@ abbrev pub up : List Float → ℕ → Bool
 up run k = le (get_or run k nan) (get_or run (k + 1) nan)
 
 abbrev pub invariant-loop-k : goal.invariant-loop-k
-invariant-loop-k l = (1 ≤ l.k) × (l.k - 1 ≤ length l.run - 1) × (l.rises ≡ all_below (l.k - 1) (up l.run))
-
-abbrev pub decreases-loop-k : goal.decreases-loop-k
-decreases-loop-k l = l.n - l.k
+invariant-loop-k l = (l.k - 1 ≤ length l.run - 1) × (l.rises ≡ all_below (l.k - 1) (up l.run))

@@ -1,10 +1,7 @@
 -- `sweep::cut::level`. Invariant: the result is the definition's over the chunks passed, and their children are written.
-use Prim.Native.Nat.{◌-◌}
+use Prim.Native.Nat.{min}
 use Rattle.sweep.proofs.Chunks.{Leveling}
 use Rattle.sweep.proofs.cut.level.Given as goal
 
 abbrev pub invariant-loop-start : goal.invariant-loop-start
-invariant-loop-start l = Leveling l.grid l.angles l.cosines l.sums l.current l.n l.km l.best l.initial.following l.size l.following l.done l.start
-
-abbrev pub decreases-loop-start : goal.decreases-loop-start
-decreases-loop-start l = l.n - l.start
+invariant-loop-start l = Leveling l.grid l.angles l.cosines l.sums l.current l.n l.km l.best l.initial.following l.size l.following l.done (min l.start l.n)

@@ -1,9 +1,10 @@
 -- `sweep::sweep::chunk`: a turn seen from its block, the wide kernels, the exact one, and what the turn's end needs of them.
+use Rattle.std.proofs.Common.{Option}
 use mathlib.Core.Path.{◌≡◌, sym, ap, subst, ◌∙◌}
-use mathlib.Core.Bool.{true, cond}
+use mathlib.Core.Bool.{true, false, cond, not}
 use mathlib.Core.List.{List, [], ◌∷◌, ◌++◌}
 use mathlib.Core.Logic.{◌⊎◌, inl, inr}
-use Prim.Native.Nat.{ℕ, ◌<◌}
+use Prim.Native.Nat.{ℕ, ◌+◌, ◌<◌}
 use lib.Ieee.{Float, eq}
 use Rattle.grid.specs.declared.Cell.{Cell}
 use Rattle.grid.specs.Map.{Map}
@@ -21,7 +22,6 @@ use Rattle.blocks.specs.Block.{probe, Rectangle, same_shape}
 use Rattle.bounds.specs.Bound.{wide_km}
 use Rattle.bounds.specs.State.{wide_kernel}
 use Rattle.bounds.specs.Requires.{CanWiden}
-use Rattle.candidates.specs.declared.Held.{Held}
 use Rattle.levels.specs.Level.{examine, chunk}
 use Rattle.levels.specs.State.{blocks_from, Swept, summed_map, Serves}
 use Rattle.chunk_work.specs.State.{work_of}
@@ -31,9 +31,18 @@ use Rattle.chunk_work.specs.Requires.{CanCount}
 use Rattle.sweep.proofs.Serving.{wide_at, wide_radius_lem, serves_none, serves_still, wide_now}
 use Rattle.levels.proofs.OneBlock.{ready_sheet, ready_cosines, probe_row_lem, probe_placed, probe_people, not_asked, examined_is}
 use Rattle.sweep.proofs.Sweeps.{middle_on, start_held, start_own, sweep_start, next_rectangle, sweep_counts, sweep_room, sweep_next, sweep_done}
-use borrow.Author.Tests.{eqb-true}
+use Rattle.std.proofs.Common.{arith}
+use Rattle.std.proofs.lemmas.Bool.Decides.{nat_tests}
+use lib.Dec.{eqb}
+use lib.ListN.{get_or}
+use Rattle.sweep.proofs.Spans.{word_in, word_at, word_past}
+use Rattle.blocks.specs.State.{block_of as of_word}
 use Rattle.sweep.proofs.sweep.chunk.Goals as goal
-use Rattle.sweep.proofs.sweep.chunk.Goals.{After-odd_columns, then-odd_columns, else-odd_columns, then-not-same_shape, else-not-same_shape, then-not-same_shape-2, else-not-same_shape-2, then-asks, else-asks, then-not-same_row, else-not-same_row}
+use Rattle.candidates.specs.declared.Candidate.{Candidate}
+use Rattle.sweep.proofs.sweep.chunk.Goals.{After-odd_columns, then-odd_columns, else-odd_columns, then-not-same_shape, else-not-same_shape, then-not-same_shape-2, else-not-same_shape-2, then-asks, else-asks, then-ne, else-ne}
+
+same_row : (x y : ℕ) → not (eqb x y) ≡ false → x ≡ y
+same_row x y e = grind (arith, nat_tests)
 
 -- ---- a turn, seen from its block
 
@@ -42,14 +51,20 @@ module _ (h : After-odd_columns) where
   the_map = summed_map h.args.grid h.args.angles.now h.args.cosines.now h.args.sums.now
 
   abbrev block_of : Block
-  block_of = h.from_word-block.result
+  block_of = h.from-block.result
+
+  place : h.args.start + h.loop-word.word-index < h.args.end
+  place = word_in _ _ _ _ h.requires.chunk_words.order h.requires.chunk_words.words h.loop-word-test.true
+
+  word : h.from-block.result ≡ of_word (get_or h.args.current.now (h.args.start + h.loop-word.word-index) 0)
+  word = h.from-block.ensures ∙ ap of_word (word_at _ _ _ _ h.requires.chunk_words.order h.requires.chunk_words.words h.loop-word-test.true)
 
   rectangle : Rectangle h.args.grid block_of
   rectangle =
-      let l = h.loop-i in
+      let l = h.loop-word in
       let q = h.requires in
-      subst (Rectangle h.args.grid) (sym h.from_word-block.ensures)
-      (next_rectangle _ _ _ _ _ _ _ _ _ _ _ q.ready q.chunk_words q.can_sweep l.following l.work l.at l.i l.invariant.0 h.loop-i-test.true)
+      subst (Rectangle h.args.grid) (sym word)
+      (next_rectangle _ _ _ _ _ _ _ _ _ _ _ q.ready q.chunk_words q.can_sweep l.following l.work l.at _ l.invariant.0 place)
 
   can_widen : CanWiden h.args.grid h.args.angles.now h.args.cosines.now block_of
   can_widen = let t = h.requires.ready in record { sheet = ready_sheet _ _ _ _ t; complete = ready_cosines _ _ _ _ t; rectangle = rectangle }
@@ -76,11 +91,11 @@ module _ (h : After-odd_columns) where
       ((shape ≡ block_of) × (k ≡ wide_kernel the_map.globe h.args.km block_of))
       ⊎ ((same_shape shape₀ block_of ≡ true) × (shape ≡ shape₀) × (k ≡ k₀))
 
-  one_now : (shape : Block) (k : Kernel) → Own h.loop-i.one_shape h.loop-i.one shape k → WideNow shape k
-  one_now shape k own = wide_now _ _ _ _ block_of rectangle _ shape _ k h.loop-i.invariant.2 own
+  one_now : (shape : Block) (k : Kernel) → Own h.loop-word.one_shape h.loop-word.one shape k → WideNow shape k
+  one_now shape k own = wide_now _ _ _ _ block_of rectangle _ shape _ k h.loop-word.invariant.2 own
 
-  two_now : (shape : Block) (k : Kernel) → Own h.loop-i.two_shape h.loop-i.two shape k → WideNow shape k
-  two_now shape k own = wide_now _ _ _ _ block_of rectangle _ shape _ k h.loop-i.invariant.3 own
+  two_now : (shape : Block) (k : Kernel) → Own h.loop-word.two_shape h.loop-word.two shape k → WideNow shape k
+  two_now shape k own = wide_now _ _ _ _ block_of rectangle _ shape _ k h.loop-word.invariant.3 own
 
   abbrev Wide : Float → ℕ → Type 0
   Wide wide bound = let there = wide_km the_map.globe h.args.km block_of in (wide ≡ there) × (bound ≡ population the_map there (probe block_of))
@@ -98,8 +113,8 @@ module _ (h : After-odd_columns) where
 pub build-exact-requires : goal.build-exact-requires
 build-exact-requires c = middle_on _ _ (ready_sheet _ _ _ _ c.requires.ready)
 
-pub loop-i-init : goal.loop-i-init
-loop-i-init c =
+pub loop-word-init : goal.loop-word-init
+loop-word-init c =
     let shape = c.no_shape-one_shape in (
       sweep_start _ _ _ _ _ _ _ _ _ _ _ c.requires.ready c.requires.chunk_words c.requires.can_sweep c.started-work.result (start_own _ _ _ c.started-work.result c.started-work.ensures),
       kernel_own _ _ _ _ _ c.build-exact.ensures,
@@ -117,7 +132,7 @@ pub circle_population-bound-requires : goal.circle_population-bound-requires
 circle_population-bound-requires c =
     let h = (goal.at.circle_population-bound-requires c).After-odd_columns in
     let j = c.if-not-same_shape in
-    let own : Own h c.loop-i.one_shape c.loop-i.one j.one_shape j.one =
+    let own : Own h c.loop-word.one_shape c.loop-word.one j.one_shape j.one =
     elim c.if-not-same_shape.branch [ then-not-same_shape v ↦ inl (v.one_shape-is, v.one-is ∙ v.wide_kernel-one.ensures) | else-not-same_shape v ↦ inr (sym c.same_shape.ensures ∙ v.if-not-same_shape.false, v.one_shape-is, v.one-is) ] in
     can_sum h _ j.one (wide_at _ _ (block_of h) j.one (one_now h j.one_shape j.one own).0)
 
@@ -125,13 +140,13 @@ pub circle_population-bound-requires-else-odd_columns : goal.circle_population-b
 circle_population-bound-requires-else-odd_columns c =
     let h = (goal.at.circle_population-bound-requires-else-odd_columns c).After-odd_columns in
     let j = c.if-not-same_shape-2 in
-    let own : Own h c.loop-i.two_shape c.loop-i.two j.two_shape j.two =
+    let own : Own h c.loop-word.two_shape c.loop-word.two j.two_shape j.two =
     elim c.if-not-same_shape-2.branch [ then-not-same_shape-2 v ↦ inl (v.two_shape-is, v.two-is ∙ v.wide_kernel-two.ensures) | else-not-same_shape-2 v ↦ inr (sym c.same_shape-else-odd_columns.ensures ∙ v.if-not-same_shape-2.false, v.two_shape-is, v.two-is) ] in
     can_sum h _ j.two (wide_at _ _ (block_of h) j.two (two_now h j.two_shape j.two own).0)
 
-pub build-exact-requires-then-not-same_row : goal.build-exact-requires-then-not-same_row
-build-exact-requires-then-not-same_row c =
-    let h = (goal.at.build-exact-requires-then-not-same_row c).After-odd_columns in
+pub build-exact-requires-then-ne : goal.build-exact-requires-then-ne
+build-exact-requires-then-ne c =
+    let h = (goal.at.build-exact-requires-then-ne c).After-odd_columns in
     let t = c.requires.ready in
     record {
       sheet = ready_sheet _ _ _ _ t;
@@ -141,33 +156,34 @@ build-exact-requires-then-not-same_row c =
 pub circle_population-population-requires : goal.circle_population-population-requires
 circle_population-population-requires c =
     let h = (goal.at.circle_population-population-requires c).After-odd_columns in
-    let exact : ExactAt h c.if-not-same_row.exact =
-    elim c.if-not-same_row.branch [ then-not-same_row v ↦ kernel_kept _ _ c.probe-p.result.row _ c.if-not-same_row.exact (v.exact-is ∙ v.build-exact-then-not-same_row.ensures) (probe (block_of h)).row (on_row h) | else-not-same_row v ↦ v.exact-is ∙ kernel_kept _ _ c.loop-i.exact.row _ c.loop-i.exact c.loop-i.invariant.1 (probe (block_of h)).row (eqb-true _ _ (sym c.same_row.ensures ∙ v.if-not-same_row.false) ∙ on_row h) ] in
-    can_sum h _ c.if-not-same_row.exact exact
+    let exact : ExactAt h c.if-ne.exact =
+    elim c.if-ne.branch [ then-ne v ↦ kernel_kept _ _ c.probe-p.result.row _ c.if-ne.exact (v.exact-is ∙ v.build-exact-then-ne.ensures) (probe (block_of h)).row (on_row h) | else-ne v ↦ v.exact-is ∙ kernel_kept _ _ c.loop-word.exact.row _ c.loop-word.exact c.loop-word.invariant.1 (probe (block_of h)).row (same_row _ _ (sym c.ne.ensures ∙ v.if-ne.false) ∙ on_row h) ] in
+    can_sum h _ c.if-ne.exact exact
 
 pub examined-work-requires : goal.examined-work-requires
 examined-work-requires c =
-    let l = c.loop-i in
-    subst (CanCount l.work) (sym c.from_word-block.ensures)
-    (sweep_counts _ _ _ _ _ _ _ _ _ _ _ c.requires.ready c.requires.chunk_words c.requires.can_sweep l.following l.work l.at l.i l.invariant.0 c.loop-i-test.true)
+    let l = c.loop-word in
+    let h = (goal.at.examined-work-requires c).After-odd_columns in
+    subst (CanCount l.work) (sym (word h))
+    (sweep_counts _ _ _ _ _ _ _ _ _ _ _ c.requires.ready c.requires.chunk_words c.requires.can_sweep l.following l.work l.at _ l.invariant.0 (place h))
 
 pub write_children-at-requires : goal.write_children-at-requires
 write_children-at-requires c =
-    let l = c.loop-i in
-    subst (λ (x : Block). CanSplit x l.following l.at) (sym c.from_word-block.ensures)
-    (sweep_room _ _ _ _ _ _ _ _ _ _ _ c.requires.ready c.requires.chunk_words c.requires.can_sweep l.following l.work l.at l.i l.invariant.0 c.loop-i-test.true)
+    let l = c.loop-word in
+    let h = (goal.at.write_children-at-requires c).After-odd_columns in
+    subst (λ (x : Block). CanSplit x l.following l.at) (sym (word h))
+    (sweep_room _ _ _ _ _ _ _ _ _ _ _ c.requires.ready c.requires.chunk_words c.requires.can_sweep l.following l.work l.at _ l.invariant.0 (place h))
 
 -- the exact kernel stays that of its row, and the block's work is the definition's
-pub loop-i-preserved : goal.loop-i-preserved
-loop-i-preserved c =
-    let h = (goal.at.loop-i-preserved c).After-odd_columns in
-    let l = c.loop-i in
+pub loop-word-preserved : goal.loop-word-preserved
+loop-word-preserved c =
+    let h = (goal.at.loop-word-preserved c).After-odd_columns in
+    let l = c.loop-word in
     let q = c.requires in
     let j = c.if-odd_columns in
     let m = the_map h in
     let b = block_of h in
     let s = c.survives-survives in
-    let word = c.from_word-block.ensures in
     let wrote = c.write_children-at in
     let wide : Wide h j.wide j.bound × ServesNow h j.one_shape j.one × ServesNow h j.two_shape j.two =
     elim j.branch [
@@ -194,17 +210,17 @@ loop-i-preserved c =
     let exact : KernelAt c.args.grid c.args.angles.now c.if-asks.exact.row c.args.km c.if-asks.exact =
     elim c.if-asks.branch [
       | then-asks w ↦
-          let e : ExactAt h w.if-not-same_row.exact =
-          elim w.if-not-same_row.branch [ then-not-same_row v ↦ kernel_kept _ _ c.probe-p.result.row _ w.if-not-same_row.exact (v.exact-is ∙ v.build-exact-then-not-same_row.ensures) (probe (block_of h)).row (on_row h) | else-not-same_row v ↦ v.exact-is ∙ kernel_kept _ _ c.loop-i.exact.row _ c.loop-i.exact c.loop-i.invariant.1 (probe (block_of h)).row (eqb-true _ _ (sym w.same_row.ensures ∙ v.if-not-same_row.false) ∙ on_row h) ] in
+          let e : ExactAt h w.if-ne.exact =
+          elim w.if-ne.branch [ then-ne v ↦ kernel_kept _ _ c.probe-p.result.row _ w.if-ne.exact (v.exact-is ∙ v.build-exact-then-ne.ensures) (probe (block_of h)).row (on_row h) | else-ne v ↦ v.exact-is ∙ kernel_kept _ _ c.loop-word.exact.row _ c.loop-word.exact c.loop-word.invariant.1 (probe (block_of h)).row (same_row _ _ (sym w.ne.ensures ∙ v.if-ne.false) ∙ on_row h) ] in
           kernel_own _ _ (probe b).row _ c.if-asks.exact (w.exact-is ∙ e)
       | else-asks w ↦ subst (λ (x : Kernel). KernelAt c.args.grid c.args.angles.now x.row c.args.km x) (sym w.exact-is) l.invariant.1
     ] in
     let people_is : s.result ≡ true → c.if-asks.population ≡ population m c.args.km (probe b) = λ yes.
     elim c.if-asks.branch [
       | then-asks w ↦
-          let e : ExactAt h w.if-not-same_row.exact =
-          elim w.if-not-same_row.branch [ then-not-same_row v ↦ kernel_kept _ _ c.probe-p.result.row _ w.if-not-same_row.exact (v.exact-is ∙ v.build-exact-then-not-same_row.ensures) (probe (block_of h)).row (on_row h) | else-not-same_row v ↦ v.exact-is ∙ kernel_kept _ _ c.loop-i.exact.row _ c.loop-i.exact c.loop-i.invariant.1 (probe (block_of h)).row (eqb-true _ _ (sym w.same_row.ensures ∙ v.if-not-same_row.false) ∙ on_row h) ] in
-          w.population-is ∙ w.circle_population-population.ensures ∙ people h _ w.if-not-same_row.exact e
+          let e : ExactAt h w.if-ne.exact =
+          elim w.if-ne.branch [ then-ne v ↦ kernel_kept _ _ c.probe-p.result.row _ w.if-ne.exact (v.exact-is ∙ v.build-exact-then-ne.ensures) (probe (block_of h)).row (on_row h) | else-ne v ↦ v.exact-is ∙ kernel_kept _ _ c.loop-word.exact.row _ c.loop-word.exact c.loop-word.invariant.1 (probe (block_of h)).row (same_row _ _ (sym w.ne.ensures ∙ v.if-ne.false) ∙ on_row h) ] in
+          w.population-is ∙ w.circle_population-population.ensures ∙ people h _ w.if-ne.exact e
       | else-asks w ↦
           w.population-is ∙ bound_is
           ∙ same_population m j.wide c.args.km (of_true _ (not_asked _ (eq j.wide c.args.km) _ c.asks.ensures w.if-asks.false yes)) (probe b)
@@ -212,10 +228,10 @@ loop-i-preserved c =
     let seen : (bs : List Block) → work_of c.examined-work.result (cond s.result (bs ++ b ∷ []) bs) ≡ examine m c.args.km (work_of l.work bs) b = λ bs.
     ap (λ (x : ChunkWork). work_of x (cond s.result (bs ++ b ∷ []) bs)) c.examined-work.ensures
     ∙ examined_is m c.args.km l.work b _ wide.0.0 _ bound_is s.result s.ensures c.if-asks.population people_is bs in (
-      sweep_next _ _ _ _ _ _ _ _ _ _ _ q.ready q.chunk_words q.can_sweep l.following l.work l.at l.i l.invariant.0
-          c.loop-i-test.true c.examined-work.result s.result
-          (subst (λ (x : Block). (bs : List Block) → work_of c.examined-work.result (cond s.result (bs ++ x ∷ []) bs) ≡ examine m c.args.km (work_of l.work bs) x) word seen)
-          _ wrote.result (rw word at wrote.ensures),
+      sweep_next _ _ _ _ _ _ _ _ _ _ _ q.ready q.chunk_words q.can_sweep l.following l.work l.at _ l.invariant.0
+          (place h) c.examined-work.result s.result
+          (subst (λ (x : Block). (bs : List Block) → work_of c.examined-work.result (cond s.result (bs ++ x ∷ []) bs) ≡ examine m c.args.km (work_of l.work bs) x) (word h) seen)
+          _ wrote.result (rw (word h) at wrote.ensures) _ (omega arith),
       exact,
       wide.1,
       wide.2,
@@ -223,12 +239,12 @@ loop-i-preserved c =
 
 pub returns : goal.returns
 returns c =
-    let l = c.loop-i in
+    let l = c.loop-word in
     let q = c.requires in
     let a = c.args in
     let done =
-    subst (λ (x : Held). Swept (chunk (summed_map a.grid a.angles.now a.cosines.now a.sums.now) a.km x (blocks_from a.start a.end a.current.now)) a.following.now a.live l.following
+    subst (λ (x : Option Candidate). Swept (chunk (summed_map a.grid a.angles.now a.cosines.now a.sums.now) a.km x (blocks_from a.start a.end a.current.now)) a.following.now a.live l.following
     (record { held = l.work.held; tally = l.work.tally; live = l.at }))
     (start_held _ _ _ c.started-work.result c.started-work.ensures)
-    (sweep_done _ _ _ _ _ _ _ _ _ _ _ q.ready q.chunk_words q.can_sweep l.following l.work l.at l.i l.invariant.0 c.loop-i-test.false) in
+    (sweep_done _ _ _ _ _ _ _ _ _ _ _ q.ready q.chunk_words q.can_sweep l.following l.work l.at _ l.invariant.0 (word_past _ _ _ _ q.chunk_words.order q.chunk_words.words c.loop-word-test.false)) in
     rw c.result_of.ensures done
