@@ -1,194 +1,102 @@
 // Commands from bytes. Decoding looks at no state: what a command may do is judged when it is applied.
 ghost use Rattle.std.specs.Prelude.{◌≡◌, ◌+◌, ◌≤◌, length, drop};
-ghost use Rattle.job_commands.specs.Command.{grid_read, set_grid_of, set_count_of, set_cosine_of, set_angle_of, most_of, least_of};
-ghost use Rattle.job_commands.specs.Command.{with_operands, end_of, decode_as, decode};
+ghost use Rattle.job_commands.specs.Command.{set_grid_of, set_count_of, set_cosine_of, set_angle_of, most_of, least_of};
+ghost use Rattle.job_commands.specs.Command.{decode_as, decode};
 ghost use Rattle.job_commands.specs.State.{decoded_in};
 
-use crate::{Command, Decoded, bytes};
+use crate::bytes::{bytes_at, float_at};
+use crate::{Command, Decoded};
 use grid::{Cell, Col, Grid, Row};
 
-// G's operands.
-fn grid_at(bytes: &[u8], from: usize) -> Grid
-    requires { from + 26 ≤ length bytes.now }
-    ensures { result ≡ grid_read (drop from bytes.now) }
+// Each command by its operands.
+fn set_grid(operands: &[u8; 26]) -> Command
+    ensures { result ≡ set_grid_of operands.now }
 {
-    let width = bytes::u8_at(bytes, from);
-    let height = bytes::u8_at(bytes, from + 1);
-    Grid {
-        width: width as u32,
-        height: height as u32,
-        origin_lat: bytes::f64_at(bytes, from + 2),
-        lon_step: bytes::f64_at(bytes, from + 10),
-        lat_step: bytes::f64_at(bytes, from + 18),
-    }
+    Command::SetGrid(Grid {
+        width: u32::from(operands[0]),
+        height: u32::from(operands[1]),
+        origin_lat: float_at(operands, 2),
+        lon_step: float_at(operands, 10),
+        lat_step: float_at(operands, 18),
+    })
 }
 
-// Each command with its operands from a place on. Bytes that end before the operands do are no command: what is missing is not
-// taken for zeros.
-fn read_grid(bytes: &[u8], from: usize) -> Decoded
-    requires { from ≤ length bytes.now }
-    ensures { result ≡ decoded_in bytes.now (with_operands 26 set_grid_of (drop from bytes.now)) }
+fn set_count(operands: &[u8; 6]) -> Command
+    ensures { result ≡ set_count_of operands.now }
 {
-    if bytes.len() - from < 26 {
-        return Decoded::Malformed;
-    }
-    let command = Command::SetGrid(grid_at(bytes, from));
-    Decoded::Read {
-        command,
-        next: from + 26,
-    }
-}
-
-fn read_count(bytes: &[u8], from: usize) -> Decoded
-    requires { from ≤ length bytes.now }
-    ensures { result ≡ decoded_in bytes.now (with_operands 6 set_count_of (drop from bytes.now)) }
-{
-    if bytes.len() - from < 6 {
-        return Decoded::Malformed;
-    }
-    let row = bytes::u8_at(bytes, from);
-    let col = bytes::u8_at(bytes, from + 1);
-    let command = Command::SetCount {
+    Command::SetCount {
         cell: Cell {
-            row: Row(row as u32),
-            col: Col(col as u32),
+            row: Row(u32::from(operands[0])),
+            col: Col(u32::from(operands[1])),
         },
-        count: bytes::u32_at(bytes, from + 2),
-    };
-    Decoded::Read {
-        command,
-        next: from + 6,
+        count: u32::from_le_bytes(bytes_at(operands, 2)),
     }
 }
 
-fn read_cosine(bytes: &[u8], from: usize) -> Decoded
-    requires { from ≤ length bytes.now }
-    ensures { result ≡ decoded_in bytes.now (with_operands 9 set_cosine_of (drop from bytes.now)) }
+fn set_cosine(operands: &[u8; 9]) -> Command
+    ensures { result ≡ set_cosine_of operands.now }
 {
-    if bytes.len() - from < 9 {
-        return Decoded::Malformed;
-    }
-    let row = bytes::u8_at(bytes, from);
-    let command = Command::SetCosine {
-        row: Row(row as u32),
-        cosine: bytes::f64_at(bytes, from + 1),
-    };
-    Decoded::Read {
-        command,
-        next: from + 9,
+    Command::SetCosine {
+        row: Row(u32::from(operands[0])),
+        cosine: float_at(operands, 1),
     }
 }
 
-fn read_angle(bytes: &[u8], from: usize) -> Decoded
-    requires { from ≤ length bytes.now }
-    ensures { result ≡ decoded_in bytes.now (with_operands 11 set_angle_of (drop from bytes.now)) }
+fn set_angle(operands: &[u8; 11]) -> Command
+    ensures { result ≡ set_angle_of operands.now }
 {
-    if bytes.len() - from < 11 {
-        return Decoded::Malformed;
-    }
-    let centre = bytes::u8_at(bytes, from);
-    let row = bytes::u8_at(bytes, from + 1);
-    let offset = bytes::u8_at(bytes, from + 2);
-    let command = Command::SetAngle {
-        centre: Row(centre as u32),
-        row: Row(row as u32),
-        offset: offset as u32,
-        angle: bytes::f64_at(bytes, from + 3),
-    };
-    Decoded::Read {
-        command,
-        next: from + 11,
+    Command::SetAngle {
+        centre: Row(u32::from(operands[0])),
+        row: Row(u32::from(operands[1])),
+        offset: u32::from(operands[2]),
+        angle: float_at(operands, 3),
     }
 }
 
-fn read_most(bytes: &[u8], from: usize) -> Decoded
-    requires { from ≤ length bytes.now }
-    ensures { result ≡ decoded_in bytes.now (with_operands 4 most_of (drop from bytes.now)) }
+fn most(operands: &[u8; 4]) -> Command
+    ensures { result ≡ most_of operands.now }
 {
-    if bytes.len() - from < 4 {
-        return Decoded::Malformed;
-    }
-    let spacing = bytes::u16_at(bytes, from);
-    let km = bytes::u16_at(bytes, from + 2);
-    let command = Command::Most {
-        spacing: spacing as u32,
-        km: km as u32,
-    };
-    Decoded::Read {
-        command,
-        next: from + 4,
+    Command::Most {
+        spacing: u32::from(u16::from_le_bytes(bytes_at(operands, 0))),
+        km: u32::from(u16::from_le_bytes(bytes_at(operands, 2))),
     }
 }
 
-fn read_least(bytes: &[u8], from: usize) -> Decoded
-    requires { from ≤ length bytes.now }
-    ensures { result ≡ decoded_in bytes.now (with_operands 10 least_of (drop from bytes.now)) }
+fn least(operands: &[u8; 10]) -> Command
+    ensures { result ≡ least_of operands.now }
 {
-    if bytes.len() - from < 10 {
-        return Decoded::Malformed;
-    }
-    let spacing = bytes::u16_at(bytes, from);
-    let command = Command::Least {
-        spacing: spacing as u32,
-        share: bytes::f64_at(bytes, from + 2),
-    };
-    Decoded::Read {
-        command,
-        next: from + 10,
+    Command::Least {
+        spacing: u32::from(u16::from_le_bytes(bytes_at(operands, 0))),
+        share: float_at(operands, 2),
     }
 }
 
-// E ends the bytes as it ends the job.
-fn read_end(bytes: &[u8], from: usize) -> Decoded
-    requires { from ≤ length bytes.now }
-    ensures { result ≡ decoded_in bytes.now (end_of (drop from bytes.now)) }
-{
-    if from < bytes.len() {
-        return Decoded::Malformed;
-    }
-    let command = Command::End;
-    Decoded::Read {
-        command,
-        next: from,
-    }
-}
-
-// By the letter; an unknown one is no command.
-fn decode_as(letter: u8, bytes: &[u8], from: usize) -> Decoded
+// By the letter; an unknown one is no command. Nor are bytes that end before the operands do: what is missing is not taken for
+// zeros. E ends the bytes as it ends the job.
+fn decode_as(letter: u8, bytes: &[u8], from: usize) -> Option<Decoded>
     requires { from ≤ length bytes.now }
     ensures { result ≡ decoded_in bytes.now (decode_as letter (drop from bytes.now)) }
 {
-    if letter == b'G' {
-        return read_grid(bytes, from);
-    }
-    if letter == b'C' {
-        return read_count(bytes, from);
-    }
-    if letter == b'K' {
-        return read_cosine(bytes, from);
-    }
-    if letter == b'A' {
-        return read_angle(bytes, from);
-    }
-    if letter == b'M' {
-        return read_most(bytes, from);
-    }
-    if letter == b'R' {
-        return read_least(bytes, from);
-    }
-    if letter == b'E' {
-        return read_end(bytes, from);
-    }
-    Decoded::Malformed
+    let rest = &bytes[from..];
+    let (command, size) = match letter {
+        b'G' => (set_grid(rest.first_chunk()?), 26),
+        b'C' => (set_count(rest.first_chunk()?), 6),
+        b'K' => (set_cosine(rest.first_chunk()?), 9),
+        b'A' => (set_angle(rest.first_chunk()?), 11),
+        b'M' => (most(rest.first_chunk()?), 4),
+        b'R' => (least(rest.first_chunk()?), 10),
+        b'E' if rest.is_empty() => (Command::End, 0),
+        _ => return None,
+    };
+    Some(Decoded {
+        command,
+        next: from + size,
+    })
 }
 
 // The command at a place, and the place after it.
-pub fn decode(bytes: &[u8], at: usize) -> Decoded
+pub fn decode(bytes: &[u8], at: usize) -> Option<Decoded>
     ensures { result ≡ decoded_in bytes.now (decode (drop at bytes.now)) }
 {
-    if at < bytes.len() {
-        decode_as(bytes[at], bytes, at + 1)
-    } else {
-        Decoded::Malformed
-    }
+    decode_as(*bytes.get(at)?, bytes, at + 1)
 }

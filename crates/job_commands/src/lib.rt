@@ -36,9 +36,9 @@ pub enum Command {
     End,
 }
 
-// A command and the place of the byte after it, or bytes that begin with none.
+// A command and the place of the byte after it.
 #[derive(Clone, Copy)]
-pub enum Decoded {
-    Read { command: Command, next: usize },
-    Malformed,
+pub struct Decoded {
+    pub command: Command,
+    pub next: usize,
 }

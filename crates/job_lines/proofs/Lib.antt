@@ -1,4 +1,3 @@
 pub mod Decimals
 pub mod Lengths
 pub mod Texts
-pub mod Whole

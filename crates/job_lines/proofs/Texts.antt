@@ -4,8 +4,11 @@ use mathlib.Core.Path.{◌≡◌, refl, sym, ◌∙◌, ap}
 use mathlib.Core.List.{List, [], ◌∷◌, ◌++◌, append_assoc, append-nil}
 use native.Mathlib.Omega.{arith}
 use native.Mathlib.Numerals.{add-one}
-use lib.ListN.{length, take, drop, get_or, set, replicate, length-drop, length-append, length-replicate}
-use lib.Seq.{take-suc, take-length, take_all, take-append_seam, set-append_seam, append_snoc, drop_at, length-take-le}
+use lib.ListN.{length, take, drop, get_or, set, replicate, length-drop, length-append, length-replicate, length-set}
+use Rattle.std.proofs.lemmas.Grind.{take-set_at}
+use Rattle.std.proofs.Common.{add-zero}
+use Rattle.std.proofs.lemmas.List.{drop-set-lt, take-append-drop}
+use lib.Seq.{drop-drop, take-suc, take_all, take-append_seam, set-append_seam, append_snoc, drop_at, length-take-le}
 use Rattle.job_lines.specs.declared.Digits.{Digits}
 use Rattle.job_lines.specs.declared.Line.{Line}
 use Rattle.job_lines.specs.State.{line_room, text_of, line_of, with_byte, longer, digits_in}
@@ -28,18 +31,21 @@ module _ (l r : Line) where
   pub len_longer : (xs : List ℕ) → r ≡ longer l xs → r.len ≡ l.len + length xs
   len_longer xs e = ap (λ (t : Line). t.len) e ∙ longer_len l xs
 
-  -- as far as a place of a list, and one byte more
-  pub len_so_far : (more : List ℕ) (i : ℕ) → i ≤ length more → r ≡ longer l (take i more) → r.len ≡ l.len + i
-  len_so_far more i h e = omega (arith, len_longer (take i more) e, length-take-le i more h)
-
-  pub longer_next : (more : List ℕ) (i : ℕ) → i < length more → r ≡ longer l (take i more) → with_byte r (get_or more i 0) ≡ longer l (take (i + 1) more)
-  unfolding longer
-  longer_next more i h e =
-      let next : take (i + 1) more ≡ take i more ++ get_or more i 0 ∷ [] = rw (add-one i) (take-suc more i 0 h) in
-      ap (λ (t : Line). with_byte t (get_or more i 0)) e ∙ longer_then l (take i more) (get_or more i 0 ∷ []) ∙ ap (longer l) (sym next)
-
-  pub longer_all : (more : List ℕ) (i : ℕ) → i ≡ length more → r ≡ longer l (take i more) → r ≡ longer l more
-  longer_all more i h e = e ∙ ap (longer l) (ap (λ (n : ℕ). take n more) h ∙ take-length more)
+-- all bytes at once: the line's own, those behind them, and what stands after
+pub longer_is : (l : Line) (xs : List ℕ) → l.len + length xs ≤ length l.bytes
+    → record { len = l.len + length xs; bytes = take l.len l.bytes ++ (xs ++ drop (length xs) (drop l.len l.bytes)) } ≡ longer l xs
+unfolding longer with_byte
+longer_is l [] h = rw (add-zero, take-append-drop l.len l.bytes)
+longer_is l (x ∷ xs) h =
+    let n = l.len in
+    let front : take (n + 1) (set l.bytes n x) ≡ take n l.bytes ++ x ∷ [] = take-set_at l.bytes n (n + 1) x refl (omega arith) in
+    let back : drop (n + 1) (set l.bytes n x) ≡ drop 1 (drop n l.bytes) = drop-set-lt (n + 1) l.bytes n x (omega arith) ∙ sym (drop-drop 1 n l.bytes) in
+    let one : 1 + length xs ≡ suc (length xs) = omega arith in
+    let rest : drop (length xs) (drop 1 (drop n l.bytes)) ≡ drop (suc (length xs)) (drop n l.bytes) = drop-drop (length xs) 1 (drop n l.bytes) ∙ ap (λ (k : ℕ). drop k (drop n l.bytes)) one in
+    let place : n + 1 + length xs ≡ n + suc (length xs) = omega arith in
+    let all = longer_is (with_byte l x) xs (omega (arith, length-set l.bytes n x)) in
+    let same = rw (place, front, back, rest, append_assoc (take n l.bytes) (x ∷ [])) at all in
+    same
 
 -- ---- the line of a text
 
@@ -90,18 +96,14 @@ module _ (d : Digits) (n : ℕ) (is : d ≡ digits_in (in_decimal n)) where
   unfolding digits_in
   digits_seen = rw is (drop_at (replicate (most_digits - length (in_decimal n)) 48) (in_decimal n) _ (length-replicate (most_digits - length (in_decimal n)) 48))
 
-  pub field_longer : (l a b : Line) → a ≡ longer l (32 ∷ []) → b ≡ longer a (take (most_digits - d.from) (drop d.from d.bytes)) → length d.bytes ≡ most_digits → b ≡ longer l (field n)
+  pub field_longer : (l a b : Line) → a ≡ longer l (32 ∷ []) → b ≡ longer a (take (length d.bytes - d.from) (drop d.from d.bytes)) → b ≡ longer l (field n)
   unfolding field
-  field_longer l a b p q h =
-      let all : take (most_digits - d.from) (drop d.from d.bytes) ≡ in_decimal n
-      = take_all (most_digits - d.from) (drop d.from d.bytes) (omega (arith, length-drop d.from d.bytes)) ∙ digits_seen in
+  field_longer l a b p q =
+      let all : take (length d.bytes - d.from) (drop d.from d.bytes) ≡ in_decimal n
+      = take_all (length d.bytes - d.from) (drop d.from d.bytes) (omega (arith, length-drop d.from d.bytes)) ∙ digits_seen in
       q ∙ ap (longer a) all ∙ ap (λ (t : Line). longer t (in_decimal n)) p ∙ longer_then l (32 ∷ []) (in_decimal n)
 
 -- ---- fields so far, and one more
-
-pub fields_none : (l : Line) (ns : List ℕ) → l ≡ longer l (fields (take 0 ns))
-unfolding fields longer
-fields_none l ns = refl
 
 fields_snoc : (ns : List ℕ) (n : ℕ) → fields (ns ++ n ∷ []) ≡ fields ns ++ field n
 unfolding fields
@@ -116,6 +118,3 @@ module _ (l : Line) (ns : List ℕ) (i : ℕ) where
   fields_next a b h p q =
       let more : fields (take i ns) ++ field (get_or ns i 0) ≡ fields (take (i + 1) ns) = sym (rw (add-one i, take-suc ns i 0 h) (fields_snoc (take i ns) (get_or ns i 0))) in
       q ∙ ap (λ (t : Line). longer t (field (get_or ns i 0))) p ∙ longer_then l (fields (take i ns)) (field (get_or ns i 0)) ∙ ap (longer l) more
-
-  pub fields_all : (r : Line) → i ≡ length ns → r ≡ longer l (fields (take i ns)) → r ≡ longer l (fields ns)
-  fields_all r h e = e ∙ ap (λ (t : List ℕ). longer l (fields t)) (ap (λ (n : ℕ). take n ns) h ∙ take-length ns)

@@ -8,6 +8,7 @@ use probes::{Smallest, Witness};
 use search_rules::MostPopulous;
 
 // A line of no bytes: none.
+#[tactic(auto, unfolding(crate::specs::State::line_of))]
 pub fn blank() -> Line
     ensures { result ≡ line_of [] }
 {
@@ -18,19 +19,15 @@ pub fn blank() -> Line
 }
 
 // The line with more bytes behind it.
-fn append(line: Line, more: &[u8]) -> Line
+fn append(mut line: Line, more: &[u8]) -> Line
     requires { line.len + length more.now ≤ line_room }
     ensures { result ≡ longer line more.now }
 {
-    let mut next = line;
-    let mut i: usize = 0;
-    while i < more.len() {
-        let len = next.len;
-        next.bytes[len] = more[i];
-        next.len = len + 1;
-        i += 1;
-    }
-    next
+    let start = line.len;
+    let end = start + more.len();
+    line.bytes[start..end].copy_from_slice(more);
+    line.len = end;
+    line
 }
 
 // A space and the number.
@@ -38,26 +35,20 @@ fn add_field(line: Line, n: u64) -> Line
     requires { line.len + longest_field ≤ line_room }
     ensures { result ≡ longer line (field n) }
 {
-    let space = [32u8];
-    let spaced = append(line, &space);
+    let spaced = append(line, b" ");
     let d = decimal::digits_of(n);
-    let bytes = d.bytes;
-    let from = d.from;
-    append(spaced, &bytes[from..])
+    append(spaced, &d.bytes[d.from..])
 }
 
 // A field for each number.
-fn add_fields(line: Line, numbers: &[u64]) -> Line
+fn add_fields(mut line: Line, numbers: &[u64]) -> Line
     requires { line.len + longest_field * length numbers.now ≤ line_room }
     ensures { result ≡ longer line (fields numbers.now) }
 {
-    let mut next = line;
-    let mut i: usize = 0;
-    while i < numbers.len() {
-        next = add_field(next, numbers[i]);
-        i += 1;
+    for n in numbers {
+        line = add_field(line, *n);
     }
-    next
+    line
 }
 
 // A line as far as its word and its first numbers.
@@ -65,8 +56,7 @@ fn begin_line(word: &[u8], numbers: &[u64]) -> Line
     requires { length word.now + longest_field * length numbers.now ≤ line_room }
     ensures { result ≡ line_of (word.now ++ fields numbers.now) }
 {
-    let begun = append(blank(), word);
-    add_fields(begun, numbers)
+    add_fields(append(blank(), word), numbers)
 }
 
 // The line with its end.
@@ -74,24 +64,20 @@ fn end_line(line: Line) -> Line
     requires { line.len < line_room }
     ensures { result ≡ longer line newline }
 {
-    let end = [10u8];
-    append(line, &end)
+    append(line, b"\n")
 }
 
 // The line of a refusal: "refused" and its number.
 pub fn refused_line(n: u32) -> Line
     ensures { result ≡ line_of (refused_line n) }
 {
-    let word = [114u8, 101, 102, 117, 115, 101, 100];
-    let numbers = [n as u64];
-    end_line(begin_line(&word, &numbers))
+    end_line(begin_line(b"refused", &[n as u64]))
 }
 
 // The line of an M: "most", the radius, the centre with its population, and the counts of the work.
 pub fn most_line(found: MostPopulous) -> Line
     ensures { result ≡ line_of (most_line found) }
 {
-    let word = [109u8, 111, 115, 116];
     let centre = found.centre;
     let tally = found.tally;
     let stats = tally.stats;
@@ -108,7 +94,7 @@ pub fn most_line(found: MostPopulous) -> Line
         tally.cells_pruned,
         tally.cells_settled,
     ];
-    end_line(begin_line(&word, &numbers))
+    end_line(begin_line(b"most", &numbers))
 }
 
 // The witness's kilometre and population, or a dash for each: a number would say that there is a witness.
@@ -118,14 +104,8 @@ fn add_short(line: Line, short: Option<Witness>) -> Line
     ensures { result ≡ longer line (short_fields short) }
 {
     match short {
-        Some(short) => {
-            let numbers = [short.km.0 as u64, short.population];
-            add_fields(line, &numbers)
-        }
-        None => {
-            let dashes = [32u8, 45, 32, 45];
-            append(line, &dashes)
-        }
+        Some(short) => add_fields(line, &[short.km.0 as u64, short.population]),
+        None => append(line, b" - -"),
     }
 }
 
@@ -133,10 +113,8 @@ fn add_short(line: Line, short: Option<Witness>) -> Line
 pub fn least_line(found: Smallest) -> Line
     ensures { result ≡ line_of (least_line found) }
 {
-    let word = [108u8, 101, 97, 115, 116];
     let centre = found.centre;
     let stats = found.stats;
-    let short = found.short_below;
     let first = [
         found.radius_km.0 as u64,
         centre.row.0 as u64,
@@ -144,7 +122,7 @@ pub fn least_line(found: Smallest) -> Line
         centre.population,
     ];
     let last = [stats.radii_evaluated, stats.radii_reused];
-    let begun = begin_line(&word, &first);
-    let shown = add_short(begun, short);
+    let begun = begin_line(b"least", &first);
+    let shown = add_short(begun, found.short_below);
     end_line(add_fields(shown, &last))
 }

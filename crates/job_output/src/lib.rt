@@ -30,25 +30,16 @@ fn put_byte(out: &mut [u8], place: usize, byte: u8)
     }
 }
 
-// How many bytes a line has, at most those of its array.
-fn line_len(line: Line) -> usize
-    ensures { result ≡ length (text_of line) }
-{
-    let len = line.len;
-    if len < Line::ROOM { len } else { Line::ROOM }
-}
-
 // The line from a place on, and the place after it.
 fn add_line(line: Line, out: &mut [u8], place: usize) -> usize
     requires { place + line_room < 2 ^ 64 }
     ensures out_after { output_of result out.new ≡ added place (text_of line) out.old }
     ensures upper_bound { result ≤ place + line_room }
 {
-    let n = line_len(line);
-    let mut i: usize = 0;
-    while i < n {
-        put_byte(out, place + i, line.bytes[i]);
-        i += 1;
+    let n = line.len.min(Line::ROOM);
+    let text = &line.bytes[..n];
+    for (i, byte) in text.iter().enumerate() {
+        put_byte(out, place + i, *byte);
     }
     place + n
 }
@@ -61,12 +52,9 @@ fn run_steps(bytes: &[u8], out: &mut [u8]) -> usize
     let mut state = job_world::start();
     let mut at: usize = 0;
     let mut count: usize = 0;
-    let mut i: usize = 0;
-    while i <= bytes.len() {
+    for _ in 0..bytes.len() + 1 {
         let r = job_step::step(bytes, at, state);
-        let line = r.line;
-        count = add_line(line, out, count);
-        i += 1;
+        count = add_line(r.line, out, count);
         if r.ended {
             return count;
         }

@@ -21,10 +21,8 @@ use Rattle.job_world.specs.declared.JobState.{JobState}
 use Rattle.job_lines.specs.declared.Line.{Line}
 use Rattle.job_lines.specs.State.{line_of}
 use Rattle.job_sizes.specs.Sizes.{size_taken, cell_found, angle_found}
-use Rattle.job_sizes.specs.declared.CellFound.{CellFound}
-use Rattle.job_sizes.specs.declared.CellFound.TheVariants as cell-found
-use Rattle.job_sizes.specs.declared.AngleFound.{AngleFound}
-use Rattle.job_sizes.specs.declared.AngleFound.TheVariants as angle-found
+use Rattle.std.proofs.Common.{Option, Some, None}
+use Rattle.job_sizes.specs.declared.AngleIndices.{AngleIndices}
 use Rattle.job_sizes.proofs.Found.{cell_is, cell_none, row_is, row_none, angle_is, angle_none}
 use Rattle.job_world.specs.World.{World, State, empty, begun, with_map, with_count, with_cosine, with_angle}
 use Rattle.job_world.specs.State.{job_map, world_of, state_of, grid_state, count_state, cosine_state, angle_state}
@@ -109,11 +107,11 @@ module _ (s : JobState) where
     abbrev counted : World
     counted = with_map (world_of s) (with_count (job_map s) x n)
 
-    pub count_off : {r : CellFound} → r ≡ cell_found s.grid x → r ≡ cell-found.Off → refused_in s 15 ≡ later_in s (SetCount x n)
+    pub count_off : {r : Option Cell} → r ≡ cell_found s.grid x → r ≡ None → refused_in s 15 ≡ later_in s (SetCount x n)
     unfolding in_world world_of job_map
     count_off f e = off_grid (SetCount x n) counted refl (cell_none s.grid x (sym f ∙ e))
 
-    pub count_on : {r : CellFound} {y : Cell} {t : JobState} → r ≡ cell_found s.grid x → r ≡ cell-found.On y → t ≡ count_state s y n
+    pub count_on : {r : Option Cell} {y : Cell} {t : JobState} → r ≡ cell_found s.grid x → r ≡ Some y → t ≡ count_state s y n
         → gone_on t (line_of []) ≡ later_in s (SetCount x n)
     unfolding in_world world_of job_map command_state
     count_on {r} {y} f e p = let is = cell_is s.grid x y (sym f ∙ e) in on_grid_lem (SetCount x n) counted refl is.0 (rw is.1 p)
@@ -135,17 +133,17 @@ module _ (s : JobState) where
     abbrev turned : World
     turned = with_map (world_of s) (with_angle (job_map s) centre row offset x)
 
-    pub angle_off : {r : AngleFound} → r ≡ angle_found s.grid centre row offset → r ≡ angle-found.Off → refused_in s 15 ≡ later_in s (SetAngle centre row offset x)
+    pub angle_off : {r : Option AngleIndices} → r ≡ angle_found s.grid centre row offset → r ≡ None → refused_in s 15 ≡ later_in s (SetAngle centre row offset x)
     unfolding in_world world_of job_map
     angle_off f e = off_grid (SetAngle centre row offset x) turned refl (angle_none s.grid centre row offset (sym f ∙ e))
 
-    pub angle_on_lem : {r : AngleFound} {from to : Row} {at : ℕ} {t : JobState} → r ≡ angle_found s.grid centre row offset → r ≡ angle-found.On from to at
-        → t ≡ angle_state s from to at x
+    pub angle_on_lem : {r : Option AngleIndices} {y : AngleIndices} {t : JobState} → r ≡ angle_found s.grid centre row offset → r ≡ Some y
+        → t ≡ angle_state s y.centre y.row y.offset x
         → gone_on t (line_of []) ≡ later_in s (SetAngle centre row offset x)
     unfolding in_world world_of job_map command_state
-    angle_on_lem {r} {from} {to} {at} f e p =
-        let is = angle_is s.grid centre row offset from to at (sym f ∙ e) in
-        on_grid_lem (SetAngle centre row offset x) turned refl is.0 (rw (is.1, is.2, is.3) p)
+    angle_on_lem {r} {y} f e p =
+        let is = angle_is s.grid centre row offset y (sym f ∙ e) in
+        on_grid_lem (SetAngle centre row offset x) turned refl is.0 (let q = rw (← is.1) at p in q)
 
   -- ---- E
 

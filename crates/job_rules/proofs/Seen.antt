@@ -4,6 +4,7 @@ use mathlib.Core.Path.{◌≡◌, refl, ◌∙◌, ap}
 use mathlib.Core.Bool.{Bool, true, false}
 use mathlib.Core.List.{List, [], ◌∷◌}
 use lib.Ieee.{Float}
+use Rattle.std.proofs.Common.{Option, Some, None}
 use lib.ListN.{drop}
 use Rattle.grid.specs.declared.Grid.{Grid}
 use Rattle.grid.specs.Answer.{question, first_no, Answer, answered, refused, decide}
@@ -14,7 +15,6 @@ use Rattle.smallest_rules.specs.Call.{smallest_call}
 use Rattle.job_commands.specs.declared.Command.{Command}
 use Rattle.job_commands.specs.declared.Command.TheVariants.{SetGrid, SetCount, SetCosine, SetAngle, Most, Least, End}
 use Rattle.job_commands.specs.declared.Decoded.{Decoded}
-use Rattle.job_commands.specs.declared.Decoded.TheVariants.{Read, Malformed}
 use Rattle.job_commands.specs.Command.{decode}
 use Rattle.job_commands.specs.State.{decoded_in, decoded_of}
 use Rattle.job_commands.proofs.Seen.{decoded_seen}
@@ -103,10 +103,10 @@ module _ (s : JobState) where
       go false e = rw (apply_early s c e) (early_seen c)
 
   module _ (bs : List ℕ) (at : ℕ) where
-    decoded_step : (d : Decoded) → step_of bs (stepped_by s at d) ≡ step_with (state_of s) (decoded_of bs d)
+    decoded_step : (d : Option Decoded) → step_of bs (stepped_by s at d) ≡ step_with (state_of s) (decoded_of bs d)
     unfolding stepped_by stepped_to step_of step_with decoded_of done_of step_after settle
-    decoded_step (Read c next) = ap (step_after (drop next bs)) (done_seen c)
-    decoded_step Malformed = ap (step_after (drop at bs)) (refused_seen 13)
+    decoded_step (Some d) = ap (step_after (drop d.next bs)) (done_seen d.command)
+    decoded_step None = ap (step_after (drop at bs)) (refused_seen 13)
 
     step_seen : step_of bs (stepped_in bs at s) ≡ step (state_of s) (drop at bs)
     unfolding stepped_in step

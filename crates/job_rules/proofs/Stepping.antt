@@ -3,20 +3,19 @@ use Prim.Native.Nat.{ℕ}
 use mathlib.Core.Path.{◌≡◌, sym, ap}
 use mathlib.Core.List.{List}
 use lib.ListN.{drop}
+use Rattle.std.proofs.Common.{Option, Some, None}
 use Rattle.job_rules.specs.declared.Applied.{Applied}
-use Rattle.job_commands.specs.declared.Command.{Command}
 use Rattle.job_commands.specs.declared.Decoded.{Decoded}
-use Rattle.job_commands.specs.declared.Decoded.TheVariants.{Read, Malformed}
 use Rattle.job_world.specs.declared.JobState.{JobState}
 use Rattle.job_commands.specs.Command.{decode}
 use Rattle.job_commands.specs.State.{decoded_in}
 use Rattle.job_rules.specs.State.{refused_in, applied_in, stepped_to, stepped_by, stepped_in}
 
-module _ (bs : List ℕ) (at : ℕ) (s : JobState) (d : Decoded) (is : d ≡ decoded_in bs (decode (drop at bs))) (done : Applied) where
-  pub step_applied : (c : Command) (next : ℕ) → d ≡ Read c next → done ≡ applied_in s c → stepped_to next done ≡ stepped_in bs at s
+module _ (bs : List ℕ) (at : ℕ) (s : JobState) (d : Option Decoded) (is : d ≡ decoded_in bs (decode (drop at bs))) (done : Applied) where
+  pub step_applied : (r : Decoded) → d ≡ Some r → done ≡ applied_in s r.command → stepped_to r.next done ≡ stepped_in bs at s
   unfolding stepped_in stepped_by
-  step_applied c next e h = rw (sym is, e) (ap (stepped_to next) h)
+  step_applied r e h = rw (sym is, e) (ap (stepped_to r.next) h)
 
-  pub step_malformed : d ≡ Malformed → done ≡ refused_in s 13 → stepped_to at done ≡ stepped_in bs at s
+  pub step_malformed : d ≡ None → done ≡ refused_in s 13 → stepped_to at done ≡ stepped_in bs at s
   unfolding stepped_in stepped_by
   step_malformed e h = rw (sym is, e) (ap (stepped_to at) h)

@@ -1,11 +1,10 @@
 -- What a command and a step give, as the code has it.
-use Rattle.std.specs.Prelude.{ℕ, ◌≡◌, true, false, List, drop}
+use Rattle.std.specs.Prelude.{ℕ, ◌≡◌, true, false, Option, Some, None, List, drop}
 use Rattle.grid.specs.Answer.{Answer, answered, refused}
 use Rattle.smallest_rules.specs.Call.{smallest_call}
 use Rattle.job_commands.specs.declared.Command.{Command}
 use Rattle.job_commands.specs.declared.Command.TheVariants.{SetGrid, SetCount, SetCosine, SetAngle, Most, Least, End}
 use Rattle.job_commands.specs.declared.Decoded.{Decoded}
-use Rattle.job_commands.specs.declared.Decoded.TheVariants.{Read, Malformed}
 use Rattle.job_commands.specs.Command.{decode}
 use Rattle.job_commands.specs.State.{decoded_in}
 use Rattle.job_lines.specs.declared.Line.{Line}
@@ -69,9 +68,9 @@ unfoldable pub stepped_to : ℕ → Applied → StepResult
 stepped_to next a = record { state = a.state; line = a.line; next = next; ended = a.last }
 
 -- by what is decoded: bytes that are no command are not passed over
-unfoldable pub stepped_by : JobState → ℕ → Decoded → StepResult
-stepped_by s at (Read c next) = stepped_to next (applied_in s c)
-stepped_by s at Malformed = stepped_to at (refused_in s 13)
+unfoldable pub stepped_by : JobState → ℕ → Option Decoded → StepResult
+stepped_by s at (Some d) = stepped_to d.next (applied_in s d.command)
+stepped_by s at None = stepped_to at (refused_in s 13)
 
 unfoldable pub stepped_in : List ℕ → ℕ → JobState → StepResult
 stepped_in bs at s = stepped_by s at (decoded_in bs (decode (drop at bs)))

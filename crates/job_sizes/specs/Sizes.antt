@@ -1,14 +1,11 @@
 -- The largest grid that a job takes, what its map has, and the indices that are on a grid.
-use Rattle.std.specs.Prelude.{ℕ, ◌+◌, ◌*◌, ◌/◌, min, Bool, cond, ◌&&◌, leb, ltb}
+use Rattle.std.specs.Prelude.{ℕ, ◌+◌, ◌*◌, ◌/◌, min, Option, Some, None, Bool, cond, ◌&&◌, leb, ltb}
 use Rattle.grid.specs.declared.Cell.{Cell}
 use Rattle.grid.specs.declared.Grid.{Grid}
 use Rattle.grid.specs.declared.Row.{Row}
 use Rattle.grid.specs.Grid.{on_grid, cells, closing, angle_count}
 use Rattle.job_sizes.specs.declared.Places.{Places}
-use Rattle.job_sizes.specs.declared.CellFound.{CellFound}
-use Rattle.job_sizes.specs.declared.CellFound.TheVariants as cell-found
-use Rattle.job_sizes.specs.declared.AngleFound.{AngleFound}
-use Rattle.job_sizes.specs.declared.AngleFound.TheVariants as angle-found
+use Rattle.job_sizes.specs.declared.AngleIndices.{AngleIndices}
 
 -- ---- the largest grid that a job takes
 
@@ -46,11 +43,11 @@ unfoldable pub angle_on : Grid → Row → Row → ℕ → Bool
 angle_on g centre row offset = row_on_grid g centre && row_on_grid g row && leb offset (closing g)
 
 -- the cell of C, and the rows and the offset of A, where they are
-unfoldable pub cell_found : Grid → Cell → CellFound
-cell_found g x = cond (on_grid g x) (cell-found.On x) cell-found.Off
+unfoldable pub cell_found : Grid → Cell → Option Cell
+cell_found g x = cond (on_grid g x) (Some x) None
 
-unfoldable pub angle_found : Grid → Row → Row → ℕ → AngleFound
-angle_found g centre row offset = cond (angle_on g centre row offset) (angle-found.On centre row offset) angle-found.Off
+unfoldable pub angle_found : Grid → Row → Row → ℕ → Option AngleIndices
+angle_found g centre row offset = cond (angle_on g centre row offset) (Some (record { centre = centre; row = row; offset = offset })) None
 
 -- opens all of the above, for facts that are computed
 unfoldable pub open_sizes : Unit {0}

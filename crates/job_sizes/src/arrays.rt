@@ -11,8 +11,7 @@ use grid::{Cell, Grid, Row};
 fn count_places(grid: Grid) -> usize
     ensures { result ≡ min (cells grid) job_cells }
 {
-    let n = grid::cells(grid) as usize;
-    if n < CELLS { n } else { CELLS }
+    (grid::cells(grid) as usize).min(CELLS)
 }
 
 // Of the angles.
@@ -24,22 +23,18 @@ fn angle_places(grid: Grid) -> usize
     if ANGLES <= pairs {
         return ANGLES;
     }
-    let n = pairs * (grid::closing(grid) as usize + 1);
-    if n < ANGLES { n } else { ANGLES }
+    (pairs * (grid::closing(grid) as usize + 1)).min(ANGLES)
 }
 
 // Of the cosines.
 fn cosine_places(grid: Grid) -> usize
     ensures { result ≡ min grid.height job_rows }
 {
-    if grid.height < ROWS {
-        grid.height as usize
-    } else {
-        ROWS as usize
-    }
+    grid.height.min(ROWS) as usize
 }
 
 // How many places of each array the map takes.
+#[tactic(auto, unfolding(crate::specs::Sizes::places_of))]
 pub fn places_of(grid: Grid) -> Places
     ensures { result ≡ places_of grid }
 {
@@ -58,6 +53,7 @@ pub fn count_place(grid: Grid, cell: Cell) -> usize
 }
 
 // The place in the sheet, or the array's length for any place beyond it.
+#[tactic(auto, using(crate::proofs::Held::pair_beyond), unfolding(grid::specs::Map::sheet_index))]
 pub fn angle_place(grid: Grid, centre: Row, row: Row, offset: u32) -> usize
     ensures { result ≡ min (sheet_index grid centre row offset) job_angles }
 {
@@ -65,6 +61,5 @@ pub fn angle_place(grid: Grid, centre: Row, row: Row, offset: u32) -> usize
     if ANGLES <= pair {
         return ANGLES;
     }
-    let place = pair * (grid::closing(grid) as usize + 1) + offset as usize;
-    if place < ANGLES { place } else { ANGLES }
+    (pair * (grid::closing(grid) as usize + 1) + offset as usize).min(ANGLES)
 }

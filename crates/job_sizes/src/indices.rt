@@ -2,54 +2,40 @@
 ghost use Rattle.std.specs.Prelude.{◌≡◌};
 ghost use Rattle.job_sizes.specs.Sizes.{size_taken, cell_found, angle_found};
 
-use crate::{AngleFound, COLUMNS, CellFound, ROWS};
-use grid::{Cell, ColFound, Grid, Row, RowFound};
+use crate::{AngleIndices, COLUMNS, ROWS};
+use grid::{Cell, Grid, Row};
 
 // Whether a job takes the grid.
+#[tactic(auto, unfolding(crate::specs::Sizes::size_taken))]
 pub fn size_taken(grid: Grid) -> bool
     ensures { result ≡ size_taken grid }
 {
-    if COLUMNS < grid.width {
-        return false;
-    }
-    grid.height <= ROWS
+    grid.width <= COLUMNS && grid.height <= ROWS
 }
 
 // A C's cell, by the row and the column that the grid has.
-pub fn cell_on(grid: Grid, cell: Cell) -> CellFound
+#[tactic(auto, unfolding(crate::specs::Sizes::cell_found, grid::specs::Grid::on_grid, grid::specs::Grid::row_found, grid::specs::Grid::col_found))]
+pub fn cell_on(grid: Grid, cell: Cell) -> Option<Cell>
     ensures { result ≡ cell_found grid cell }
 {
-    let found_row = grid.row(cell.row.0);
-    let found_col = grid.col(cell.col.0);
-    match found_row {
-        RowFound::Off => CellFound::Off,
-        RowFound::On(row) => match found_col {
-            ColFound::Off => CellFound::Off,
-            ColFound::On(col) => CellFound::On(Cell { row, col }),
-        },
-    }
+    let row = grid.row(cell.row.0)?;
+    let col = grid.col(cell.col.0)?;
+    Some(Cell { row, col })
 }
 
 // An A's rows, by those that the grid has, and its offset, where that is at most closing.
-pub fn angle_on(grid: Grid, centre: Row, row: Row, offset: u32) -> AngleFound
+#[tactic(auto, unfolding(crate::specs::Sizes::angle_found, crate::specs::Sizes::angle_on, crate::specs::Sizes::row_on_grid, grid::specs::Grid::row_found))]
+pub fn angle_on(grid: Grid, centre: Row, row: Row, offset: u32) -> Option<AngleIndices>
     ensures { result ≡ angle_found grid centre row offset }
 {
-    let found_centre = grid.row(centre.0);
-    let found_row = grid.row(row.0);
-    match found_centre {
-        RowFound::Off => AngleFound::Off,
-        RowFound::On(from) => match found_row {
-            RowFound::Off => AngleFound::Off,
-            RowFound::On(to) => {
-                if grid::closing(grid) < offset {
-                    return AngleFound::Off;
-                }
-                AngleFound::On {
-                    centre: from,
-                    row: to,
-                    offset,
-                }
-            }
-        },
+    let centre = grid.row(centre.0)?;
+    let row = grid.row(row.0)?;
+    if grid::closing(grid) < offset {
+        return None;
     }
+    Some(AngleIndices {
+        centre,
+        row,
+        offset,
+    })
 }

@@ -5,7 +5,7 @@ mod arrays;
 mod indices;
 
 pub use arrays::{angle_place, count_place, places_of};
-use grid::{Cell, Row};
+use grid::Row;
 pub use indices::{angle_on, cell_on, size_taken};
 
 // The largest grid that a job takes, and what its map has: cells, angles, and words of its sums.
@@ -27,15 +27,10 @@ pub struct Places {
     pub cosines: usize,
 }
 
-// C's cell and A's rows and offset, where they are on the grid; K's row is the grid's own constructor's.
+// A's rows and offset, that are on a grid.
 #[derive(Clone, Copy)]
-pub enum CellFound {
-    On(Cell),
-    Off,
-}
-
-#[derive(Clone, Copy)]
-pub enum AngleFound {
-    On { centre: Row, row: Row, offset: u32 },
-    Off,
+pub struct AngleIndices {
+    pub centre: Row,
+    pub row: Row,
+    pub offset: u32,
 }

@@ -3,12 +3,14 @@ ghost use Rattle.std.specs.Prelude.{◌≡◌};
 ghost use Rattle.smallest_rules.specs.Call.{smallest_call};
 ghost use Rattle.most_populous.specs.Call.{search_answer, search_call};
 ghost use Rattle.job_commands.specs.declared.Command.TheVariants.{Most, Least};
+ghost use Rattle.grid.specs.Map.{lent_map};
 ghost use Rattle.job_world.specs.State.{job_map};
 ghost use Rattle.job_rules.specs.Apply.{job_spacing, job_buffers};
 ghost use Rattle.job_rules.specs.State.{later_in};
 ghost use Rattle.job_step.specs.State.{IsLeast};
 
 use crate::change;
+use grid::Grid;
 use job_rules::Applied;
 use job_world::JobState;
 use most_populous::SearchAnswer;
@@ -16,41 +18,53 @@ use smallest_rules::{SmallestAnswer, SmallestResult};
 use spacing::Spacing;
 
 // A spacing of 0 is automatic.
+#[tactic(auto, unfolding(job_rules::specs::Apply::job_spacing))]
 fn spacing_of(spacing: u32) -> Spacing
     ensures { result ≡ job_spacing spacing }
 {
-    if spacing == 0 {
-        return Spacing::Automatic;
+    match spacing {
+        0 => Spacing::Automatic,
+        cells => Spacing::Cells(cells),
     }
-    Spacing::Cells(spacing)
+}
+
+// The map in a state's arrays: of each as many places as the grid has.
+#[derive(Drop)]
+struct MapPart<'a> {
+    grid: Grid,
+    counts: &'a [u32],
+    angles: &'a [f64],
+    cosines: &'a [f64],
+}
+
+fn map_part(state: &JobState) -> MapPart<'_>
+    ensures { lent_map result.grid result.counts.now result.angles.now result.cosines.now ≡ job_map state.now }
+{
+    let places = job_sizes::places_of(state.grid);
+    MapPart {
+        grid: state.grid,
+        counts: &state.counts[..places.counts],
+        angles: &state.angles[..places.angles],
+        cosines: &state.cosines[..places.cosines],
+    }
 }
 
 // The search on the map's part of the arrays.
 fn most_of(state: JobState, spacing: u32, km: u32) -> SearchAnswer
     ensures { search_answer result ≡ (search_call (job_map state) (job_spacing spacing) km job_buffers).answer }
 {
-    let grid = state.grid;
-    let counts = state.counts;
-    let angles = state.angles;
-    let cosines = state.cosines;
-    let places = job_sizes::places_of(grid);
-    let n = places.counts;
-    let k = places.angles;
-    let h = places.cosines;
-    let mut sums = [0u64; job_sizes::SUMS];
-    let mut current = [0u64; job_sizes::CELLS];
-    let mut following = [0u64; job_sizes::CELLS];
+    let map = map_part(&state);
     let side = spacing_of(spacing);
     most_populous::most_populous(
-        grid,
-        &counts[..n],
-        &angles[..k],
-        &cosines[..h],
+        map.grid,
+        map.counts,
+        map.angles,
+        map.cosines,
         km,
         side,
-        &mut sums,
-        &mut current,
-        &mut following,
+        &mut [0; job_sizes::SUMS],
+        &mut [0; job_sizes::CELLS],
+        &mut [0; job_sizes::CELLS],
     )
 }
 
@@ -68,30 +82,19 @@ pub(crate) fn run_most(state: JobState, spacing: u32, km: u32) -> Applied
 fn least_of(state: JobState, spacing: u32, share: f64) -> SmallestResult
     ensures { IsLeast (smallest_call (job_map state) (job_spacing spacing) share state.ledger job_buffers) result }
 {
-    let grid = state.grid;
-    let counts = state.counts;
-    let angles = state.angles;
-    let cosines = state.cosines;
-    let ledger = state.ledger;
-    let places = job_sizes::places_of(grid);
-    let n = places.counts;
-    let k = places.angles;
-    let h = places.cosines;
-    let mut sums = [0u64; job_sizes::SUMS];
-    let mut current = [0u64; job_sizes::CELLS];
-    let mut following = [0u64; job_sizes::CELLS];
+    let map = map_part(&state);
     let side = spacing_of(spacing);
     smallest::smallest_radius(
-        grid,
-        &counts[..n],
-        &angles[..k],
-        &cosines[..h],
+        map.grid,
+        map.counts,
+        map.angles,
+        map.cosines,
         share,
         side,
-        ledger,
-        &mut sums,
-        &mut current,
-        &mut following,
+        state.ledger,
+        &mut [0; job_sizes::SUMS],
+        &mut [0; job_sizes::CELLS],
+        &mut [0; job_sizes::CELLS],
     )
 }
 

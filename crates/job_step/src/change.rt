@@ -8,7 +8,6 @@ ghost use Rattle.job_rules.specs.State.{refused_in, gone_on, first_in, later_in}
 use grid::{Cell, Grid, Row, RowFound};
 use job_lines::Line;
 use job_rules::Applied;
-use job_sizes::{AngleFound, CellFound};
 use job_world::JobState;
 
 // A refusal: its line is the last. The state stays as it was before the command, so that a caller who steps through a job
@@ -63,8 +62,8 @@ pub(crate) fn set_count(state: JobState, cell: Cell, count: u32) -> Applied
 {
     let grid = state.grid;
     match job_sizes::cell_on(grid, cell) {
-        CellFound::Off => refuse(state, 15),
-        CellFound::On(found) => changed(job_world::with_count(state, found, count)),
+        None => refuse(state, 15),
+        Some(found) => changed(job_world::with_count(state, found, count)),
     }
 }
 
@@ -85,12 +84,8 @@ pub(crate) fn set_angle(state: JobState, centre: Row, row: Row, offset: u32, ang
 {
     let grid = state.grid;
     match job_sizes::angle_on(grid, centre, row, offset) {
-        AngleFound::Off => refuse(state, 15),
-        AngleFound::On {
-            centre: from,
-            row: to,
-            offset: at,
-        } => changed(job_world::with_angle(state, from, to, at, angle)),
+        None => refuse(state, 15),
+        Some(at) => changed(job_world::with_angle(state, at.centre, at.row, at.offset, angle)),
     }
 }
 

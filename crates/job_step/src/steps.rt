@@ -3,7 +3,7 @@ ghost use Rattle.std.specs.Prelude.{◌≡◌};
 ghost use Rattle.job_rules.specs.State.{first_in, later_in, applied_in, stepped_to, stepped_in};
 
 use crate::{calls, change};
-use job_commands::{Command, Decoded};
+use job_commands::Command;
 use job_rules::{Applied, StepResult};
 use job_world::JobState;
 
@@ -67,7 +67,7 @@ pub fn step(bytes: &[u8], at: usize, state: JobState) -> StepResult
     ensures { result ≡ stepped_in bytes.now at state }
 {
     match job_commands::decode(bytes, at) {
-        Decoded::Read { command, next } => stepped(apply(state, command), next),
-        Decoded::Malformed => stepped(change::refuse(state, 13), at),
+        Some(decoded) => stepped(apply(state, decoded.command), decoded.next),
+        None => stepped(change::refuse(state, 13), at),
     }
 }

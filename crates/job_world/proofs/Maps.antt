@@ -6,8 +6,9 @@ use mathlib.Core.List.{List, [], ◌∷◌}
 use native.Mathlib.Omega.{arith}
 use borrow.Author.Tests.{ltb-true, ltb-false, leb-true}
 use lib.Dec.{leb, ltb}
-use lib.ListN.{length, take, set, replicate}
+use lib.ListN.{length, take, set}
 use lib.Seq.{set_out}
+use Rattle.std.proofs.lemmas.List.{take-replicate}
 use Rattle.floats.specs.Binary.{whole}
 use Rattle.lists.proofs.Bools.{cases, and_left, and_right}
 use Rattle.lists.proofs.Sums.{times_le}
@@ -19,11 +20,6 @@ use Rattle.job_world.specs.World.{empty_map, with_map, with_count, with_cosine, 
 use Rattle.job_world.specs.State.{job_map, world_of, state_of, start_state, grid_state, count_state, cosine_state, angle_state, ledger_state, StatesSeen}
 
 module _ {A : Type 0} where
-  take_replicate : (k n : ℕ) (a : A) → k ≤ n → take k (replicate n a) ≡ replicate k a
-  take_replicate zero n a h = refl
-  take_replicate (suc k) zero a h = absurd (omega arith)
-  take_replicate (suc k) (suc n) a h = ap (λ (l : List A). a ∷ l) (take_replicate k n a (omega arith))
-
   -- a place beyond the front is beyond the front of the changed list
   take_set : (n : ℕ) (l : List A) (i : ℕ) (a : A) → take n (set l i a) ≡ set (take n l) i a
   take_set zero l i a = refl
@@ -67,9 +63,9 @@ states_seen =
       start = refl;
       grid = λ l g taken.
           rw (
-            take_replicate {A = ℕ} (cells g) job_cells 0 (cells_taken g taken),
-            take_replicate (angle_count g) job_angles (whole 0) (angles_taken g taken),
-            take_replicate g.height job_rows (whole 1) (height_taken g taken),
+            take-replicate {X = ℕ} (cells g) job_cells 0 (cells_taken g taken),
+            take-replicate (angle_count g) job_angles (whole 0) (angles_taken g taken),
+            take-replicate g.height job_rows (whole 1) (height_taken g taken),
           );
       count = λ s x n. rw (take_set (cells s.grid) s.counts (x.row.0 * s.grid.width + x.col.0) n);
       cosine = λ s row x. rw (take_set s.grid.height s.cosines row.0 x);

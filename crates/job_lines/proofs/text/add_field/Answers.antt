@@ -1,7 +1,6 @@
 -- A space and a number's digits.
 use native.Mathlib.Omega.{arith}
 use Rattle.job_lines.proofs.Texts.{len_longer, digits_from, field_longer}
-use Rattle.job_lines.proofs.Whole.{digits_whole}
 use Rattle.job_lines.proofs.text.add_field.Goals as goal
 
 pub slice_bounds-append-count : goal.slice_bounds-append-count
@@ -9,11 +8,6 @@ slice_bounds-append-count c = let digits_of = c.digits_of-d in omega (arith, dig
 
 pub slice_bounds-append-start : goal.slice_bounds-append-start
 slice_bounds-append-start c = let digits_of = c.digits_of-d in omega (arith, digits_from digits_of.result _ digits_of.ensures)
-
-pub slice_bounds-append-end-2 : goal.slice_bounds-append-end-2
-slice_bounds-append-end-2 c =
-    let digits_of = c.digits_of-d in
-    omega (arith, digits_whole digits_of.result _ digits_of.type_inv)
 
 pub append-requires : goal.append-requires
 append-requires c =
@@ -25,4 +19,4 @@ returns c =
     let append = c.append-spaced in
     let digits_of = c.digits_of-d in
     field_longer digits_of.result c.args.n digits_of.ensures c.args.line append.result c.append.result
-    append.ensures c.append.ensures (digits_whole digits_of.result _ digits_of.type_inv)
+    append.ensures c.append.ensures

@@ -1,25 +1,20 @@
 -- Fields behind fields.
-use Prim.Native.Nat.{◌-◌}
-use native.Mathlib.Omega.{arith}
-use Rattle.job_lines.proofs.Texts.{fields_none, fields_len, fields_next, fields_all}
+use Rattle.std.proofs.Common.{refl, arith}
+use Rattle.job_lines.proofs.Texts.{fields_len, fields_next}
+use Rattle.job_lines.specs.Line.{fields}
+use Rattle.job_lines.specs.State.{longer}
 use Rattle.job_lines.proofs.text.add_fields.Goals as goal
 
-pub loop-i-init : goal.loop-i-init
-loop-i-init c = (omega arith, c.requires, fields_none c.args.line c.args.numbers.now)
+pub loop-n-init : goal.loop-n-init
+unfolding fields longer
+loop-n-init c = refl
 
-pub add_field-next-requires : goal.add_field-next-requires
-add_field-next-requires c =
-    let loop = c.loop-i in
-    omega (arith, fields_len c.args.line c.args.numbers.now loop.i loop.next loop.invariant.0 loop.invariant.2)
+pub add_field-line-requires : goal.add_field-line-requires
+add_field-line-requires c =
+    let loop = c.loop-n in
+    omega (arith, fields_len c.args.line c.args.numbers.now loop.n-index loop.line (omega arith) loop.invariant)
 
-pub loop-i-preserved : goal.loop-i-preserved
-loop-i-preserved c =
-    let loop = c.loop-i in (
-      omega arith,
-      loop.invariant.1,
-      fields_next c.args.line c.args.numbers.now loop.i loop.next c.add_field-next.result
-          c.loop-i-test.true loop.invariant.2 c.add_field-next.ensures,
-    )
-
-pub returns : goal.returns
-returns c = fields_all c.args.line c.args.numbers.now c.loop-i.i c.loop-i.next (omega arith) c.loop-i.invariant.2
+pub loop-n-preserved : goal.loop-n-preserved
+loop-n-preserved c =
+    let loop = c.loop-n in
+    fields_next c.args.line c.args.numbers.now loop.n-index loop.line c.add_field-line.result (omega arith) loop.invariant c.add_field-line.ensures

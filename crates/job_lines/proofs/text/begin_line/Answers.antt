@@ -14,17 +14,17 @@ no_bytes : (l : Line) → l ≡ line_of [] → l.len ≡ 0
 unfolding line_of
 no_bytes l e = ap (λ (t : Line). t.len) e
 
-pub append-begun-requires : goal.append-begun-requires
-append-begun-requires c = omega (arith, no_bytes c.blank.result c.blank.ensures)
+pub append-requires : goal.append-requires
+append-requires c = omega (arith, no_bytes c.blank.result c.blank.ensures)
 
 pub add_fields-requires : goal.add_fields-requires
 add_fields-requires c =
     let blank = c.blank in
-    omega (arith, len_longer blank.result c.append-begun.result _ c.append-begun.ensures, no_bytes blank.result blank.ensures)
+    omega (arith, len_longer blank.result c.append.result _ c.append.ensures, no_bytes blank.result blank.ensures)
 
 pub returns : goal.returns
 returns c =
-    let append = c.append-begun in
+    let append = c.append in
     let blank = c.blank in
     let args = c.args in
     let word = args.word.now in

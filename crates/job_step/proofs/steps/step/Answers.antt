@@ -3,12 +3,12 @@ use mathlib.Core.Path.{◌∙◌}
 use Rattle.job_rules.proofs.Stepping.{step_applied, step_malformed}
 use Rattle.job_step.proofs.steps.step.Goals as goal
 
-pub returns-in-Read : goal.returns-in-Read
-returns-in-Read c =
+pub returns-in-Some : goal.returns-in-Some
+returns-in-Some c =
     let a = c.args in
-    c.stepped.ensures ∙ step_applied a.bytes.now a.at a.state _ c.decode.ensures _ _ _ c.in-Read.is c.apply.ensures
+    c.stepped.ensures ∙ step_applied a.bytes.now a.at a.state _ c.decode.ensures _ _ c.in-Some.is c.apply.ensures
 
-pub returns-in-Malformed : goal.returns-in-Malformed
-returns-in-Malformed c =
+pub returns-in-None : goal.returns-in-None
+returns-in-None c =
     let a = c.args in
-    c.stepped-in-Malformed.ensures ∙ step_malformed a.bytes.now a.at a.state _ c.decode.ensures _ c.in-Malformed.is c.refuse.ensures
+    c.stepped-in-None.ensures ∙ step_malformed a.bytes.now a.at a.state _ c.decode.ensures _ c.in-None.is c.refuse.ensures

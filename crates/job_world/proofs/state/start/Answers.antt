@@ -1,15 +1,8 @@
--- The state before any command.
-use Rattle.floats.proofs.Literals.{literal_0}
+-- The state before any command: the literals 0.0 and 1.0 are the whole numbers 0 and 1.
+use Rattle.floats.proofs.Literals.{literal_0, literal_1}
 use Rattle.job_world.specs.State.{no_grid, start_state}
 use Rattle.job_world.proofs.state.start.Goals as goal
 
 pub returns : goal.returns
 unfolding start_state no_grid
-returns c =
-    rw (
-      c.zero_counts-counts.ensures,
-      c.zero_angles-angles.ensures,
-      c.unit_cosines-cosines.ensures,
-      c.fresh-ledger.ensures,
-      literal_0,
-    )
+returns c = rw (c.fresh.ensures, literal_0, literal_1)
