@@ -1,27 +1,26 @@
 // The single-circle call: it puts its questions, fills the sums and answers with the circle's population.
 ghost use Rattle.std.specs.Prelude.{◌≡◌};
-ghost use Rattle.grid.specs.Map.{lent_map};
+ghost use Rattle.grid.specs.Map.{map_lent};
 ghost use Rattle.circle_rules.specs.Call.{circle_gave, circle_call};
 
 use circle_rules::circle_asked;
-use grid::{Cell, Grid, Refusal};
+use grid::{Cell, Map, Refusal};
 
 // The population of the circle of a radius around a cell, or the first question answered no; a refusal writes nothing.
 pub fn circle(
-    grid: Grid,
-    counts: &[u32],
-    angles: &[f64],
-    cosines: &[f64],
+    map: &Map<'_>,
     sums: &mut [u64],
     km: u32,
     centre: Cell,
 ) -> Result<u64, Refusal>
     ensures { circle_gave result sums.new
-        ≡ circle_call (lent_map grid counts.now angles.now cosines.now) sums.old km centre }
+        ≡ circle_call (map_lent map.now) sums.old km centre }
 {
-    let radius = circle_asked(grid, counts, angles, cosines, sums, km, centre)?;
+    let radius = circle_asked(map, sums, km, centre)?;
+    let grid = map.globe.grid;
+    let counts = map.counts;
     sums_fill::fill_sums(grid, counts, sums);
-    let kernel = kernel::build(grid, angles, centre.row, radius.0 as f64);
+    let kernel = kernel::build(grid, map.globe.angles, centre.row, radius.0 as f64);
     Ok(kernel_sums::circle_population(
         grid,
         sums,

@@ -2,28 +2,24 @@
 #![tactic(auto)]
 
 ghost use Rattle.std.specs.Prelude.{◌≡◌};
-ghost use Rattle.grid.specs.Map.{lent_map};
+ghost use Rattle.grid.specs.Map.{map_lent};
 ghost use Rattle.grid.specs.Answer.{first_no, decide};
 ghost use Rattle.grid.specs.Refusal.{answer_of};
 ghost use Rattle.circle_rules.specs.Call.{circle_questions};
 
-use grid::{Cell, Grid, RadiusKm, Refusal};
+use grid::{Cell, Map, RadiusKm, Refusal};
 
 // What the call's questions leave: its radius, or the first that is answered no. Question 8 of the radius is its constructor.
 pub fn circle_asked(
-    grid: Grid,
-    counts: &[u32],
-    angles: &[f64],
-    cosines: &[f64],
+    map: &Map<'_>,
     sums: &[u64],
     km: u32,
     centre: Cell,
 ) -> Result<RadiusKm, Refusal>
-    ensures { answer_of result ≡ decide (first_no (circle_questions
-        (lent_map grid counts.now angles.now cosines.now)
-        sums.now km centre)) (record { 0 = km }) }
+    ensures { answer_of result ≡ decide (first_no (circle_questions (map_lent map.now) sums.now km centre)) (record { 0 = km }) }
 {
-    map_questions::map_asked(grid, counts, angles, cosines)?;
+    map_questions::map_asked(map)?;
+    let grid = map.globe.grid;
     if !sums_fill::sums_fit(grid, sums) {
         return Err(Refusal::Buffers);
     }

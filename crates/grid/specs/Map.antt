@@ -4,6 +4,8 @@ use Rattle.std.specs.Float.{nan}
 use Rattle.grid.specs.declared.Row.{Row}
 use Rattle.grid.specs.declared.Cell.{Cell}
 use Rattle.grid.specs.declared.Grid.{Grid}
+use Rattle.grid.specs.declared.Globe as lent
+use Rattle.grid.specs.declared.Map as lent-map
 use Rattle.grid.specs.Grid.{closing}
 
 -- a grid with its sheet
@@ -23,6 +25,13 @@ globe_of g angles cosines = record { grid = g; angles = angles; cosines = cosine
 
 abbrev pub lent_map : Grid → List ℕ → List Float → List Float → Map
 lent_map g counts angles cosines = record { globe = globe_of g angles cosines; counts = counts }
+
+-- and by the structs in which it is lent
+abbrev pub globe_lent : lent.Globe → Globe
+globe_lent g = globe_of g.grid g.angles.now g.cosines.now
+
+abbrev pub map_lent : lent-map.Map → Map
+map_lent m = record { globe = globe_lent m.globe; counts = m.counts.now }
 
 -- a grid and its angles: circles read no cosine
 abbrev pub sheet_of : Grid → List Float → Globe

@@ -44,6 +44,21 @@ pub struct Grid {
     pub lat_step: f64,
 }
 
+// A grid with its sheet, lent: an angle for each centre row, row and column distance, and a cosine for each row.
+#[derive(Clone, Copy)]
+pub struct Globe<'a> {
+    pub grid: Grid,
+    pub angles: &'a [f64],
+    pub cosines: &'a [f64],
+}
+
+// A globe with its counts, lent to a call.
+#[derive(Clone, Copy)]
+pub struct Map<'a> {
+    pub globe: Globe<'a>,
+    pub counts: &'a [u32],
+}
+
 impl RadiusKm {
     // The IUGG mean radius. Other crates read it by `body_radius`, of a grid.
     pub const EARTH_RADIUS_KM: f64 = 6371.0088;

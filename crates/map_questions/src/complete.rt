@@ -1,16 +1,16 @@
 // Questions 4 and 5: how many counts, angles and cosines, each on any input.
-ghost use Rattle.std.specs.Prelude.{◌≡◌, ◌*◌, [], eqb};
-ghost use Rattle.grid.specs.Map.{globe_of, lent_map};
+ghost use Rattle.std.specs.Prelude.{◌≡◌, ◌*◌, eqb};
+ghost use Rattle.grid.specs.Map.{globe_lent, map_lent};
 ghost use Rattle.grid.specs.Questions.{counts_complete, sheet_complete};
 
-use grid::Grid;
+use grid::{Globe, Map};
 
 // Question 4: a count for every cell.
 #[tactic(auto, unfolding(grid::specs::Questions::counts_complete))]
-pub fn counts_complete(grid: Grid, counts: &[u32]) -> bool
-    ensures { result ≡ counts_complete (lent_map grid counts.now [] []) }
+pub fn counts_complete(map: &Map<'_>) -> bool
+    ensures { result ≡ counts_complete (map_lent map.now) }
 {
-    counts.len() as u64 == grid::cells(grid)
+    map.counts.len() as u64 == grid::cells(map.globe.grid)
 }
 
 // Whether n is a × b, which may need more than 64 bits.
@@ -22,10 +22,11 @@ fn is_product(n: u64, a: u64, b: u64) -> bool
 
 // Question 5: an angle for every centre row, row and column distance, and a cosine for every row.
 #[tactic(auto, using(lists::proofs::Sums::times_le), unfolding(grid::specs::Questions::sheet_complete))]
-pub fn sheet_complete(grid: Grid, angles: &[f64], cosines: &[f64]) -> bool
-    ensures { result ≡ sheet_complete (globe_of grid angles.now cosines.now) }
+pub fn sheet_complete(globe: &Globe<'_>) -> bool
+    ensures { result ≡ sheet_complete (globe_lent globe.now) }
 {
-    let height = u64::from(grid.height);
-    let offsets = u64::from(grid::closing(grid)) + 1;
-    is_product(angles.len() as u64, height * height, offsets) && cosines.len() as u64 == height
+    let height = u64::from(globe.grid.height);
+    let offsets = u64::from(grid::closing(globe.grid)) + 1;
+    let angles = globe.angles.len() as u64;
+    is_product(angles, height * height, offsets) && globe.cosines.len() as u64 == height
 }

@@ -2,10 +2,10 @@
 ghost use Rattle.std.specs.Prelude.{◌≡◌, true, ◌&&◌, [], length};
 ghost use Rattle.std.specs.Float.Ieee.{le, lt};
 ghost use Rattle.floats.specs.Binary.{whole};
-ghost use Rattle.grid.specs.Map.{globe_of};
+ghost use Rattle.grid.specs.Map.{globe_of, globe_lent};
 ghost use Rattle.grid.specs.Questions.{sheet_complete, cosines_in_range, sheet_in_order};
 
-use grid::Grid;
+use grid::{Globe, Grid};
 
 // Above 0 and at most 1.
 #[tactic(auto, using(floats::proofs::Literals::literal_0, floats::proofs::Literals::literal_1))]
@@ -25,9 +25,9 @@ fn cosines_in_range(grid: Grid, cosines: &[f64]) -> bool
 
 // Question 6, of a sheet that has passed question 5: cosines and angles in range, and angles that do not fall away from the centre.
 // Circles rest on this order: a row's cells within an angle are then one run of columns, and its rows one band.
-pub fn sheet_in_order(grid: Grid, angles: &[f64], cosines: &[f64]) -> bool
-    requires { sheet_complete (globe_of grid angles.now cosines.now) ≡ true }
-    ensures { result ≡ sheet_in_order (globe_of grid angles.now cosines.now) }
+pub fn sheet_in_order(globe: &Globe<'_>) -> bool
+    requires { sheet_complete (globe_lent globe.now) ≡ true }
+    ensures { result ≡ sheet_in_order (globe_lent globe.now) }
 {
-    cosines_in_range(grid, cosines) && sheet::angles_in_order(grid, angles)
+    cosines_in_range(globe.grid, globe.cosines) && sheet::angles_in_order(globe.grid, globe.angles)
 }

@@ -1,11 +1,11 @@
 // The search call: its questions first, and then the sums and the search.
 ghost use Rattle.std.specs.Prelude.{◌≡◌};
 ghost use Rattle.grid.specs.Answer.{first_no, decide};
-ghost use Rattle.grid.specs.Map.{lent_map};
+ghost use Rattle.grid.specs.Map.{map_lent};
 ghost use Rattle.grid.specs.Refusal.{answer_of};
 ghost use Rattle.most_populous.specs.Call.{buffers, buffers_fit, search_questions, search_call, search_gave};
 
-use grid::{Grid, RadiusKm, Refusal};
+use grid::{Grid, Map, RadiusKm, Refusal};
 use search_rules::MostPopulous;
 use spacing::Spacing;
 
@@ -22,10 +22,7 @@ pub fn buffers_fit(grid: Grid, sums: &[u64], current: &[u64], following: &[u64])
 
 // What the call's questions leave: its radius, or the first that is answered no. Question 8 is the radius's constructor.
 fn search_asked(
-    grid: Grid,
-    counts: &[u32],
-    angles: &[f64],
-    cosines: &[f64],
+    map: &Map<'_>,
     km: u32,
     spacing: Spacing,
     sums: &[u64],
@@ -33,10 +30,11 @@ fn search_asked(
     following: &[u64],
 ) -> Result<RadiusKm, Refusal>
     ensures { answer_of result ≡ decide (first_no (search_questions
-        (lent_map grid counts.now angles.now cosines.now) spacing km
+        (map_lent map.now) spacing km
         (buffers sums.now current.now following.now))) (record { 0 = km }) }
 {
-    map_questions::map_asked(grid, counts, angles, cosines)?;
+    map_questions::map_asked(map)?;
+    let grid = map.globe.grid;
     if !buffers_fit(grid, sums, current, following) {
         return Err(Refusal::Buffers);
     }
@@ -52,10 +50,7 @@ fn search_asked(
 // The search call: its questions first, in their order; a refusal changes nothing that was lent. Otherwise the sums are filled, also at
 // radius 0, and the search is made.
 pub fn most_populous(
-    grid: Grid,
-    counts: &[u32],
-    angles: &[f64],
-    cosines: &[f64],
+    map: &Map<'_>,
     km: u32,
     spacing: Spacing,
     sums: &mut [u64],
@@ -63,14 +58,20 @@ pub fn most_populous(
     following: &mut [u64],
 ) -> Result<MostPopulous, Refusal>
     ensures { search_gave result sums.new current.new following.new ≡ search_call
-        (lent_map grid counts.now angles.now cosines.now) spacing km
+        (map_lent map.now) spacing km
         (buffers sums.old current.old following.old) }
 {
-    let radius = search_asked(
-        grid, counts, angles, cosines, km, spacing, sums, current, following,
-    )?;
-    sums_fill::fill_sums(grid, counts, sums);
+    let radius = search_asked(map, km, spacing, sums, current, following)?;
+    let globe = map.globe;
+    sums_fill::fill_sums(globe.grid, map.counts, sums);
     Ok(search::search_at(
-        grid, angles, cosines, sums, current, following, radius, spacing,
+        globe.grid,
+        globe.angles,
+        globe.cosines,
+        sums,
+        current,
+        following,
+        radius,
+        spacing,
     ))
 }

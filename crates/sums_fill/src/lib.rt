@@ -1,7 +1,7 @@
 // Filling the prefix sums of crate `sums`: whether a lent buffer has room for them, and the words of a map's counts at its front.
 #![tactic(auto)]
 
-ghost use Rattle.std.specs.Prelude.{◌≡◌, ◌+◌, ◌≤◌, length};
+ghost use Rattle.std.specs.Prelude.{◌≡◌, ℕ, ◌+◌, ◌≤◌, ◌<◌, ◌^◌, length, get_or};
 ghost use Rattle.lists.specs.Front.{over};
 ghost use Rattle.sums.specs.Sums.{sums_word, sums_fit, filled_sums};
 ghost use Rattle.sums.specs.State.{counts_map};
@@ -45,10 +45,12 @@ fn fill_row(grid: Grid, row: usize, counts: &[u32], sums: &mut [u64])
     }
 }
 
-// The prefix sums of the counts at the front of `sums`, whose tail is kept.
+// The prefix sums of the counts at the front of `sums`, whose tail is kept. That each count has 32 bits is known of a slice, and no longer
+// of one in a struct: so it is said here, to those who go on from the words.
 pub fn fill_sums(grid: Grid, counts: &[u32], sums: &mut [u64])
     requires { Fillable grid counts.now sums.old }
-    ensures { sums.new ≡ filled_sums (counts_map grid counts.now) sums.old }
+    ensures small { (i : ℕ) → get_or counts.now i 0 < 2 ^ 32 }
+    ensures filled { sums.new ≡ filled_sums (counts_map grid counts.now) sums.old }
 {
     let height = grid.height as usize;
     zero_row(sums, grid.width as usize + 1);

@@ -48,9 +48,9 @@ loop-row-preserved c =
     let row = c.loop-row.row in
     rw (next_row w row) (over_more (sums_word (counts_map c.args.grid c.args.counts.now)) (row * (w + 1) + (w + 1)) (w + 1) c.zero_row.new.sums c.loop-row.sums _ c.loop-row.invariant c.fill_row.ensures)
 
-pub returns : goal.returns
+pub returns-clause-filled : goal.returns-clause-filled
 unfolding filled_sums sums_words
-returns c =
+returns-clause-filled c =
     let m = counts_map c.args.grid c.args.counts.now in
     let w = c.args.grid.width in
     let h = c.args.grid.height in

@@ -1,6 +1,6 @@
 -- `circle::call::circle`: refused with nothing written, or accepted, filled, built and summed.
 use Rattle.std.proofs.Common.{rules, ◌≡◌, ◌∙◌}
-use Rattle.grid.specs.Map.{Map, lent_map}
+use Rattle.grid.specs.Map.{Map, map_lent}
 use Rattle.grid.specs.Answer.{first_no}
 use Rattle.grid.proofs.Answers.{PassedCall, radius_left}
 use Rattle.sums_fill.proofs.Tables.{bare_filled}
@@ -17,12 +17,12 @@ returns-in_err-radius c = search (rules, circle_refused)
 -- past the questions
 module _ (r : In_ok-radius) where
   abbrev given : Map
-  given = let a = r.args in lent_map a.grid a.counts.now a.angles.now a.cosines.now
+  given = map_lent r.args.map.now
 
   left : (first_no (circle_questions given r.args.sums.now r.args.km r.args.centre) ≡ 0) × (r.args.km ≡ r.in_ok-radius.radius.0)
   left = radius_left _ _ _ r.in_ok-radius.ensures
 
-  passed : PassedCall given (circle_own r.args.grid r.args.sums.now r.args.km r.args.centre)
+  passed : PassedCall given (circle_own r.args.map.now.globe.grid r.args.sums.now r.args.km r.args.centre)
   passed = circle_passed _ _ _ _ left.0
 
 pub fill_sums-requires : goal.fill_sums-requires
@@ -34,11 +34,11 @@ build-kernel-requires c = to_build _ _ _ _ (passed (goal.at.build-kernel-require
 pub circle_population-requires : goal.circle_population-requires
 circle_population-requires c =
     let r = (goal.at.circle_population-requires c).In_ok-radius in
-    rows_placed (to_sum _ _ _ _ (passed r) _ c.fill_sums.ensures _ (left r).1 _ c.build-kernel.ensures (λ i. (c.type_inv.counts i).fits))
+    rows_placed (to_sum _ _ _ _ (passed r) _ c.fill_sums.ensures.filled _ (left r).1 _ c.build-kernel.ensures c.fill_sums.ensures.small)
 
 pub returns : goal.returns
 returns c =
     let r = (goal.at.returns c).In_ok-radius in
     circle_answered _ _ _ _ _ _ (left r).0
-    (c.circle_population.ensures ∙ rows_people _ c.build-kernel.result _ ∙ summed_up _ _ _ _ (passed r) _ c.fill_sums.ensures _ (left r).1 _ c.build-kernel.ensures)
-    (c.fill_sums.ensures ∙ bare_filled (given r) _)
+    (c.circle_population.ensures ∙ rows_people _ c.build-kernel.result _ ∙ summed_up _ _ _ _ (passed r) _ c.fill_sums.ensures.filled _ (left r).1 _ c.build-kernel.ensures)
+    (c.fill_sums.ensures.filled ∙ bare_filled (given r) _)

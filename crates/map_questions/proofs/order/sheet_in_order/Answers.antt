@@ -8,8 +8,8 @@ use Rattle.sheet.proofs.Judging.{order_as_read}
 use Rattle.map_questions.proofs.order.sheet_in_order.Goals as goal
 use Rattle.map_questions.proofs.order.sheet_in_order.Goals.{Start}
 
-as_read : (s : Start) → sheet_in_order (globe_of s.args.grid s.args.angles.now s.args.cosines.now) ≡ (cosines_in_range (globe_of s.args.grid [] s.args.cosines.now) && judged s.args.grid s.args.angles.now)
-as_read s = order_as_read s.args.grid s.args.angles.now s.args.cosines.now (sheet_angles _ s.requires)
+as_read : (s : Start) → sheet_in_order (globe_of s.args.globe.now.grid s.args.globe.now.angles.now s.args.globe.now.cosines.now) ≡ (cosines_in_range (globe_of s.args.globe.now.grid [] s.args.globe.now.cosines.now) && judged s.args.globe.now.grid s.args.globe.now.angles.now)
+as_read s = order_as_read s.args.globe.now.grid s.args.globe.now.angles.now s.args.globe.now.cosines.now (sheet_angles _ s.requires)
 
 pub cosines_in_range-requires : goal.cosines_in_range-requires
 cosines_in_range-requires c = sheet_cosines _ c.requires

@@ -1,6 +1,6 @@
 -- `most_populous::call::most_populous`: refused with nothing written, or accepted, filled and searched.
 use Rattle.std.proofs.Common.{rules, ◌≡◌, ◌∙◌}
-use Rattle.grid.specs.Map.{Map, lent_map}
+use Rattle.grid.specs.Map.{Map, map_lent}
 use Rattle.grid.specs.Answer.{first_no, shown}
 use Rattle.grid.proofs.Answers.{PassedCall, radius_left}
 use Rattle.sums_fill.proofs.Tables.{bare_filled}
@@ -16,7 +16,7 @@ returns-in_err-radius c = search (rules, search_refused)
 -- past the questions
 module _ (r : In_ok-radius) where
   abbrev given : Map
-  given = let a = r.args in lent_map a.grid a.counts.now a.angles.now a.cosines.now
+  given = map_lent r.args.map.now
 
   abbrev lent : Buffers
   lent = let a = r.args in buffers a.sums.now a.current.now a.following.now
@@ -24,7 +24,7 @@ module _ (r : In_ok-radius) where
   left : (first_no (search_questions given r.args.spacing r.args.km lent) ≡ 0) × (r.args.km ≡ r.in_ok-radius.radius.0)
   left = radius_left _ _ _ r.in_ok-radius.ensures
 
-  passed : PassedCall given (search_own r.args.grid r.args.spacing r.args.km lent)
+  passed : PassedCall given (search_own r.args.map.now.globe.grid r.args.spacing r.args.km lent)
   passed = search_passed _ _ _ _ left.0
 
 pub fill_sums-requires : goal.fill_sums-requires
@@ -33,7 +33,7 @@ fill_sums-requires c = let p = passed (goal.at.fill_sums-requires c).In_ok-radiu
 pub search_at-requires : goal.search_at-requires
 search_at-requires c =
     let p = passed (goal.at.search_at-requires c).In_ok-radius in
-    to_search _ _ p.map (p.yes 7).0 _ c.fill_sums.ensures (λ i. (c.type_inv.counts i).fits)
+    to_search _ _ p.map (p.yes 7).0 _ c.fill_sums.ensures.filled c.fill_sums.ensures.small
 
 pub returns : goal.returns
 returns c =
@@ -41,5 +41,5 @@ returns c =
     let found = c.search_at in
     let p = passed r in
     search_answered _ _ _ _ found.result _ _ _ (left r).0
-    (found.ensures ∙ searched_map _ _ p.map (p.yes 7).0 _ c.fill_sums.ensures _ _ _ (left r).1)
-    (c.fill_sums.ensures ∙ bare_filled (given r) _) found.auto.current found.auto.following
+    (found.ensures ∙ searched_map _ _ p.map (p.yes 7).0 _ c.fill_sums.ensures.filled _ _ _ (left r).1)
+    (c.fill_sums.ensures.filled ∙ bare_filled (given r) _) found.auto.current found.auto.following
