@@ -5,7 +5,7 @@ ghost use Rattle.grid.specs.Map.{lent_map};
 ghost use Rattle.crossings.specs.Crossing.{grid_from};
 ghost use Rattle.crossings.specs.Calls.{circle_returned, circle_crossing};
 
-use grid::{Cell, Col, Grid, Row};
+use grid::{Cell, Col, Globe, Grid, Map, Row};
 
 // Exported to C by crates/jadurphen_c: the population of a circle.
 pub fn jadurphen_circle(
@@ -35,11 +35,17 @@ pub fn jadurphen_circle(
         lon_step,
         lat_step,
     };
+    let globe = Globe {
+        grid,
+        angles,
+        cosines,
+    };
+    let map = Map { globe, counts };
     let centre = Cell {
         row: Row(row),
         col: Col(col),
     };
-    match circle::circle(grid, counts, angles, cosines, sums, km, centre) {
+    match circle::circle(&map, sums, km, centre) {
         Ok(people) => {
             *population = people;
             0

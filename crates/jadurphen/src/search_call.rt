@@ -5,7 +5,7 @@ ghost use Rattle.most_populous.specs.Call.{buffers};
 ghost use Rattle.crossings.specs.Crossing.{grid_from, spacing_from};
 ghost use Rattle.crossings.specs.Calls.{search_returned, search_crossing};
 
-use grid::Grid;
+use grid::{Globe, Grid, Map};
 use spacing::Spacing;
 
 // Exported to C by crates/jadurphen_c: the most populous circle of a radius, as words, and the tolerance in persons.
@@ -40,10 +40,14 @@ pub fn jadurphen_search(
         lon_step,
         lat_step,
     };
+    let globe = Globe {
+        grid,
+        angles,
+        cosines,
+    };
+    let map = Map { globe, counts };
     let side = crossings::spacing_from(automatic, spacing);
-    match most_populous::most_populous(
-        grid, counts, angles, cosines, km, side, sums, current, following,
-    ) {
+    match most_populous::most_populous(&map, km, side, sums, current, following) {
         Ok(found) => {
             *words = crossings::search_words(found);
             *tolerance = found.tolerance_persons;
