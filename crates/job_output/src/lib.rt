@@ -8,6 +8,7 @@ ghost use Rattle.job_rules.specs.Job.{job, most_bytes, program};
 ghost use Rattle.job_output.specs.Output.{output_of, output};
 ghost use Rattle.job_output.specs.State.{added};
 
+use grid::Refusal;
 use job_lines::Line;
 
 // The most bytes that the program reads.
@@ -69,7 +70,7 @@ pub fn run(bytes: &[u8], out: &mut [u8]) -> usize
     ensures { output_of result out.new ≡ output (program fresh_ledger bytes.now) out.old }
 {
     if MOST_BYTES < bytes.len() {
-        return add_line(job_lines::refused_line(13), out, 0);
+        return add_line(job_lines::refused_line(Refusal::Bytes), out, 0);
     }
     run_steps(bytes, out)
 }
