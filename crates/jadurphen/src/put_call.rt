@@ -42,12 +42,10 @@ pub fn jadurphen_put(
     let centre = Candidate::at(cell, population);
     // As it was lent: question 11 judges it.
     let km = RadiusKm(km);
-    let before = words::ledger_of(ledger);
-    let result = put::put_entry(grid, before, Entry { km, centre });
-    let answer = result.answer;
-    match answer {
+    let mut held = words::ledger_of(ledger);
+    match put::put_lent(&mut held, grid, Entry { km, centre }) {
         Ok(()) => {
-            words::write_ledger(result.ledger, ledger);
+            words::write_ledger(held, ledger);
             0
         }
         Err(refusal) => refusal.number(),

@@ -41,10 +41,9 @@ pub fn jadurphen_search(
         lat_step,
     };
     let side = crossings::spacing_from(automatic, spacing);
-    let answer = most_populous::most_populous(
+    match most_populous::most_populous(
         grid, counts, angles, cosines, km, side, sums, current, following,
-    );
-    match answer {
+    ) {
         Ok(found) => {
             *words = crossings::search_words(found);
             *tolerance = found.tolerance_persons;

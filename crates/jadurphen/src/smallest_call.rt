@@ -48,8 +48,7 @@ pub fn jadurphen_smallest(
     let result = smallest::smallest_radius(
         grid, counts, angles, cosines, share, side, before, sums, current, following,
     );
-    let answer = result.answer;
-    match answer {
+    match result.answer {
         Ok(found) => {
             words::write_ledger(result.ledger, ledger);
             *words = crossings::smallest_words(found);

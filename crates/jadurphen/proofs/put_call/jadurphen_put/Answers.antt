@@ -3,12 +3,11 @@ use Rattle.crossings.proofs.Crossings.{put_fits, put_done, put_refused}
 use Rattle.jadurphen.proofs.put_call.jadurphen_put.Goals as goal
 
 pub write_ledger-requires : goal.write_ledger-requires
-write_ledger-requires c = put_fits _ _ _ _ _ c.at-centre.ensures _ c.ledger_of-before.ensures _ _ c.put_entry-result.ensures c.in-Done.is
+write_ledger-requires c = put_fits _ _ _ _ _ c.at-centre.ensures _ c.ledger_of-held.ensures _ _ _ c.put_lent.ensures c.in-Ok.is
 
-pub returns-in-Done : goal.returns-in-Done
-returns-in-Done c =
-    put_done _ _ _ _ _ c.at-centre.ensures _ c.ledger_of-before.ensures _ _ _ c.put_entry-result.ensures c.in-Done.is
-    c.write_ledger.ensures
+pub returns-in-Ok : goal.returns-in-Ok
+returns-in-Ok c =
+    put_done _ _ _ _ _ c.at-centre.ensures _ c.ledger_of-held.ensures _ _ _ _ c.put_lent.ensures c.in-Ok.is c.write_ledger.ensures
 
-pub returns-in-Refused : goal.returns-in-Refused
-returns-in-Refused c = put_refused _ _ _ _ _ c.at-centre.ensures _ c.ledger_of-before.ensures _ _ _ c.put_entry-result.ensures c.in-Refused.is
+pub returns-in-Err : goal.returns-in-Err
+returns-in-Err c = put_refused _ _ _ _ _ c.at-centre.ensures _ c.ledger_of-held.ensures _ _ _ _ c.put_lent.ensures c.in-Err.is c.number.ensures
