@@ -2,13 +2,13 @@
 use Prim.Native.Nat.{ℕ}
 use mathlib.Core.Path.{◌≡◌, refl, sym, ◌∙◌, ap}
 use mathlib.Core.Bool.{Bool, true, false}
-use mathlib.Core.List.{List, [], ◌∷◌}
+use mathlib.Core.List.{List, []}
 use lib.Ieee.{Float}
 use Rattle.grid.specs.declared.Cell.{Cell}
 use Rattle.grid.specs.declared.Row.{Row}
 use Rattle.grid.specs.Grid.{row_found}
 use Rattle.grid.specs.declared.Grid.{Grid}
-use Rattle.grid.specs.Answer.{question, first_no, Answer, answered, refused, decide}
+use Rattle.grid.specs.Answer.{first_no, Answer, answered, refused, decide}
 use Rattle.grid.proofs.Answers.{says_no, says_yes, says_all, refused_alike, decided_yes, decide_yes}
 use Rattle.grid.specs.Questions.{grid_questions}
 use Rattle.job_commands.specs.declared.Command.{Command}
