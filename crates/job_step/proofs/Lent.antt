@@ -6,7 +6,7 @@ use Rattle.grid.specs.Map.{Map}
 use Rattle.spacing.specs.declared.Spacing.{Spacing}
 use Rattle.spacing.specs.declared.Spacing.TheVariants.{Cells}
 use Rattle.search_rules.specs.declared.MostPopulous.{MostPopulous}
-use Rattle.std.specs.Prelude.{Result, Ok, Err}
+use Rattle.std.specs.Prelude.{Ok, Err}
 use Rattle.grid.specs.declared.refusal.Refusal.{Refusal}
 use Rattle.grid.specs.Refusal.{number, answer_of}
 use Rattle.grid.specs.Answer.{Answer, answered, refused}

@@ -38,6 +38,7 @@ struct MapPart<'a> {
     cosines: &'a [f64],
 }
 
+#[tactic(auto, using(job_world::proofs::Fronts::fronts), unfolding(job_sizes::specs::Sizes::places_of))]
 fn map_part(state: &JobState) -> MapPart<'_>
     ensures { lent_map result.grid result.counts.now result.angles.now result.cosines.now ≡ job_map state.now }
 {
@@ -51,6 +52,7 @@ fn map_part(state: &JobState) -> MapPart<'_>
 }
 
 // The search on the map's part of the arrays.
+#[tactic(auto, using(crate::proofs::Lent::search_lent), unfolding(job_rules::specs::Apply::job_buffers))]
 fn most_of(state: JobState, spacing: u32, km: u32) -> Result<MostPopulous, Refusal>
     ensures { answer_of result ≡ (search_call (job_map state) (job_spacing spacing) km job_buffers).answer }
 {
@@ -79,6 +81,7 @@ pub(crate) fn run_most(state: JobState, spacing: u32, km: u32) -> Result<Applied
 }
 
 // The smallest radius on the map's part of the arrays.
+#[tactic(auto, using(crate::proofs::Lent::smallest_lent), unfolding(job_rules::specs::Apply::job_buffers))]
 fn least_of(state: JobState, spacing: u32, share: f64) -> SmallestResult
     ensures { IsLeast (smallest_call (job_map state) (job_spacing spacing) share state.ledger job_buffers) result }
 {

@@ -77,7 +77,13 @@ pub(crate) fn set_cosine(state: JobState, row: Row, cosine: f64) -> Result<Appli
 
 // A: an angle of the sheet.
 #[tactic(auto, using(job_rules::proofs::Commands::angle_off, job_rules::proofs::Commands::angle_on_lem))]
-pub(crate) fn set_angle(state: JobState, centre: Row, row: Row, offset: u32, angle: f64) -> Result<Applied, Refusal>
+pub(crate) fn set_angle(
+    state: JobState,
+    centre: Row,
+    row: Row,
+    offset: u32,
+    angle: f64,
+) -> Result<Applied, Refusal>
     ensures { settled_in state result ≡ later_in state (SetAngle centre row offset angle) }
 {
     let at = job_sizes::angle_on(state.grid, centre, row, offset).ok_or(Refusal::Index)?;
