@@ -21,7 +21,7 @@ fn first(state: JobState, command: Command) -> Result<Applied, Refusal>
 }
 
 // A command after G, by the function of its letter; a second G is 14.
-#[tactic(auto, using(job_rules::proofs::Commands::second_grid))]
+#[tactic(auto, unfolding(job_rules::specs::State::done_in, job_rules::specs::Apply::in_world))]
 fn later(state: JobState, command: Command) -> Result<Applied, Refusal>
     ensures { settled_in state result ≡ later_in state command }
 {
@@ -42,7 +42,7 @@ fn later(state: JobState, command: Command) -> Result<Applied, Refusal>
 }
 
 // The command, in its turn.
-#[tactic(auto, using(job_rules::proofs::Commands::first_applied, job_rules::proofs::Commands::later_applied))]
+#[tactic(auto, unfolding(job_rules::specs::State::applied_in, job_rules::specs::Apply::apply, job_world::specs::State::state_of))]
 pub fn apply(state: JobState, command: Command) -> Applied
     ensures { result ≡ applied_in state command }
 {
@@ -71,7 +71,7 @@ fn stepped(done: Applied, next: usize) -> StepResult
 }
 
 // The step from a state at a place of the job's bytes.
-#[tactic(auto, using(job_rules::proofs::Stepping::step_applied, job_rules::proofs::Stepping::step_malformed))]
+#[tactic(auto, unfolding(job_rules::specs::State::stepped_in, job_rules::specs::State::stepped_by))]
 pub fn step(bytes: &[u8], at: usize, state: JobState) -> StepResult
     ensures { result ≡ stepped_in bytes.now at state }
 {
