@@ -49,24 +49,24 @@ fn entries_in_order(grid: Grid, entries: &[Entry]) -> bool
 
 // Question 11: no more entries than places, kilometres strictly rising, each entry in bounds.
 #[tactic(auto, using(ledger::proofs::Places::order_counted, ledger::proofs::Places::order_beyond), unfolding(ledger::specs::Ledger::entries))]
-pub fn ledger_in_order(grid: Grid, ledger: Ledger) -> bool
-    ensures { result ≡ ledger_in_order grid ledger }
+pub fn ledger_in_order(grid: Grid, ledger: &Ledger) -> bool
+    ensures { result ≡ ledger_in_order grid ledger.now }
 {
     ledger.len <= Ledger::CAPACITY && entries_in_order(grid, &ledger.places[..ledger.len])
 }
 
 // Question 12: n places are free. The sum of len and n may need more than 64 bits, so it is not formed.
 #[tactic(auto, using(ledger::proofs::Places::same_leb), unfolding(ledger::specs::Ledger::places_free))]
-pub fn places_free(ledger: Ledger, n: usize) -> bool
-    ensures { result ≡ places_free ledger n }
+pub fn places_free(ledger: &Ledger, n: usize) -> bool
+    ensures { result ≡ places_free ledger.now n }
 {
     n <= Ledger::CAPACITY && ledger.len <= Ledger::CAPACITY - n
 }
 
 // Question 12 of a put: an entry of the kilometre to replace, or a free place.
 #[tactic(auto, unfolding(ledger::specs::Ledger::place_for))]
-pub fn place_for(ledger: Ledger, km: RadiusKm) -> bool
-    ensures { result ≡ place_for ledger (get ledger km.0) }
+pub fn place_for(ledger: &Ledger, km: RadiusKm) -> bool
+    ensures { result ≡ place_for ledger.now (get ledger.now km.0) }
 {
     ledger_store::get(ledger, km).is_some() || places_free(ledger, 1)
 }

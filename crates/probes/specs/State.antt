@@ -24,7 +24,6 @@ use Rattle.probes.specs.declared.Smallest.{Smallest}
 use Rattle.probes.specs.declared.RunState.{RunState}
 use Rattle.probes.specs.declared.SmallestStats.{SmallestStats}
 use Rattle.probes.specs.declared.RunEnd.{RunEnd}
-use Rattle.probes.specs.declared.Ran.{Ran}
 use Rattle.probes.specs.Probes.{target_persons, Probe, Run, smallest_run, evaluated_in, reused_in, stats_of}
 use Rattle.probes.specs.Smallest.{short_below_of, widened, ambiguity, witness}
 
@@ -128,6 +127,15 @@ end_at m share trace km reached centre =
       ambiguity = ambiguity persons (predicate_slack_persons m.globe.grid (whole (total m))) trace;
       stats = counts (evaluated_in trace) (reused_in trace) (stats_of trace);
     }
+
+-- a run's end, and the ledger after it
+pub record Ran : Type 0 where
+  pub end : RunEnd
+  pub ledger : Ledger
+
+-- what a run has given: its end, and the ledger as it is then
+abbrev pub ran_with : RunEnd → Ledger → Ran
+ran_with e l = record { end = e; ledger = l }
 
 -- where the climb and the bisection have ended; all short: the ceiling, cell (0, 0) and the total
 unfoldable pub ran_to : Map → Float → Ended Run Candidate → Ran

@@ -4,7 +4,6 @@
 
 use candidates::Candidate;
 use grid::RadiusKm;
-use ledger::Ledger;
 use share::Target;
 use tally::SearchStats;
 
@@ -67,11 +66,4 @@ pub struct RunEnd {
     pub short_below: Option<Witness>,
     pub ambiguity: Option<Ambiguity>,
     pub stats: SmallestStats,
-}
-
-// A run's end beside the ledger after it.
-#[derive(Clone, Copy)]
-pub struct Ran {
-    pub end: RunEnd,
-    pub ledger: Ledger,
 }

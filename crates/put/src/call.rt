@@ -8,8 +8,8 @@ use grid::{Grid, Refusal};
 use ledger::{Entry, Ledger};
 
 // The first of the questions 1 to 3, 11 and 12 that is answered no.
-fn put_asked(grid: Grid, ledger: Ledger, entry: Entry) -> Result<(), Refusal>
-    ensures { answer_of result ≡ decide (first_no (put_questions grid ledger entry)) tt }
+fn put_asked(grid: Grid, ledger: &Ledger, entry: Entry) -> Result<(), Refusal>
+    ensures { answer_of result ≡ decide (first_no (put_questions grid ledger.now entry)) tt }
 {
     grid_questions::grid_asked(grid)?;
     if !ledger_questions::ledger_in_order(grid, ledger) {
@@ -28,7 +28,7 @@ fn put_asked(grid: Grid, ledger: Ledger, entry: Entry) -> Result<(), Refusal>
 pub fn put_lent(ledger: &mut Ledger, grid: Grid, entry: Entry) -> Result<(), Refusal>
     ensures { put_gave result ledger.new ≡ put_call grid ledger.old entry }
 {
-    put_asked(grid, *ledger, entry)?;
-    *ledger = ledger_store::put(*ledger, entry);
+    put_asked(grid, ledger, entry)?;
+    ledger_store::put(ledger, entry);
     Ok(())
 }

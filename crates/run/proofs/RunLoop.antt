@@ -37,9 +37,8 @@ use Rattle.share.specs.declared.Target.{Target}
 use Rattle.share.specs.Target.{reaches, predicate_slack_persons}
 use Rattle.probes.specs.declared.RunState.{RunState}
 use Rattle.probes.specs.declared.RunEnd.{RunEnd}
-use Rattle.probes.specs.declared.Ran.{Ran}
 use Rattle.probes.specs.Probes.{Run, target_persons, probed, latest, smallest_run}
-use Rattle.probes.specs.State.{run_begun, state_after, probe_count, radii_of, InOrder, end_at, ran_to, ran}
+use Rattle.probes.specs.State.{run_begun, state_after, probe_count, radii_of, InOrder, end_at, ran_with, ran_to, ran}
 use Rattle.run_end.specs.State.{end_from}
 use Rattle.probes.specs.Requires.{CanNote, CanEvaluate, CanRun}
 use Rattle.probes.proofs.Traces.{last_km}
@@ -70,10 +69,6 @@ begun_in_order g people l o r =
       light = omega arith;
       radii = omega arith;
     }
-
--- a run's end beside its ledger
-abbrev ran_with : RunEnd → Ledger → Ran
-ran_with e h = record { end = e; ledger = h }
 
 -- ---- the loop
 

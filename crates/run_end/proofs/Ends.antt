@@ -20,11 +20,10 @@ use Rattle.climb.specs.Climb.{Ended, all_short, reached_at}
 use Rattle.share.specs.declared.Target.{Target}
 use Rattle.share.specs.Target.{target_of, predicate_slack_persons}
 use Rattle.probes.specs.declared.RunEnd.{RunEnd}
-use Rattle.probes.specs.declared.Ran.{Ran}
 use Rattle.probes.specs.Probes.{Run, smallest_run}
 use Rattle.probes.specs.Smallest.{Settled, smallest_at, concluded, smallest}
 use Rattle.probes.specs.Requires.{CanConclude}
-use Rattle.probes.specs.State.{end_at, ran_to, ran, end_covers, answer_by}
+use Rattle.probes.specs.State.{end_at, Ran, ran_to, ran, end_covers, answer_by}
 
 -- circles read no cosine
 pub answer_sheet : (g : Grid) (angles cosines : List Float) (t : Target) (slack : Float) (people : ℕ) (e : RunEnd)

@@ -22,16 +22,14 @@ use Rattle.most_populous.proofs.SearchCalls.{to_search}
 use Rattle.ledger.specs.declared.Ledger.{Ledger}
 use Rattle.share.specs.declared.Target.{Target}
 use Rattle.share.specs.Target.{predicate_slack_persons, target_of}
-use Rattle.probes.specs.declared.Ran.{Ran}
 use Rattle.probes.specs.declared.Smallest.{Smallest}
 use Rattle.probes.specs.Smallest.{Settled, smallest}
-use Rattle.probes.specs.State.{ran, answer_by}
+use Rattle.probes.specs.State.{ran_with, ran, answer_by}
 use Rattle.probes.specs.Requires.{CanRun, CanConclude}
 use Rattle.run_end.proofs.Ends.{answer_sheet, settled_by, ran_settles}
 use Rattle.probes.proofs.Probes.{people_exact}
 use Rattle.probes.proofs.Centres.{ran_in_bounds}
-use Rattle.smallest_rules.specs.declared.SmallestResult.{SmallestResult}
-use Rattle.std.specs.Prelude.{Ok}
+use Rattle.probes.specs.declared.RunEnd.{RunEnd}
 use Rattle.smallest_rules.specs.Call.{smallest_own}
 use Rattle.smallest.specs.Requires.{CanSettle}
 use Rattle.smallest_rules.specs.State.{IsSettled}
@@ -62,25 +60,26 @@ module _ {g : Grid} {angles cosines : List Float} {sums current following : List
         room = can.room;
       }
 
-  module _ {r : Ran} (ends : r ≡ ran (summed_map g angles cosines sums) spacing t.share l) where
-    pub can_conclude : CanConclude g angles people r.end
+  module _ {end : RunEnd} {l' : Ledger} (ends : ran_with end l' ≡ ran (summed_map g angles cosines sums) spacing t.share l) where
+    pub can_conclude : CanConclude g angles people end
     can_conclude =
         let ready = can.search.ready in
         let exact = people_exact g angles cosines sums ready in
         record {
           sheet = record { cosines = cosines; sizes = ready.sizes; complete = ready.complete; order = ready.order };
-          centre = rw ends (ran_in_bounds (summed_map g angles cosines sums) (grid_sizes g ready.sizes) exact spacing t.share l can.ledger);
+          centre = rw (← ends) at (ran_in_bounds (summed_map g angles cosines sums) (grid_sizes g ready.sizes) exact spacing t.share l can.ledger);
           exact = rw all_people exact;
         }
 
-    pub is_settled : {a : Smallest} → a ≡ answer_by (sheet_of g angles) t slack people r.end
-        → IsSettled (smallest (summed_map g angles cosines sums) spacing share l) (record { answer = Ok a; ledger = r.ledger })
+    pub is_settled : {a : Smallest} → a ≡ answer_by (sheet_of g angles) t slack people end
+        → IsSettled (smallest (summed_map g angles cosines sums) spacing share l) a l'
     is_settled {a} f =
         let m = summed_map g angles cosines sums in
-        let same : settled_by m share r ≡ smallest m spacing share l = rw (ends, same_share) (ran_settles m spacing share l) in
+        let r = ran_with end l' in
+        let same : settled_by m share r ≡ smallest m spacing share l = ap (settled_by m share) ends ∙ rw same_share (ran_settles m spacing share l) in
         let width : slack ≡ predicate_slack_persons g (whole (total m)) = k ∙ ap (λ (x : Target). predicate_slack_persons g x.total) the_target in
-        let whole-answer : a ≡ (settled_by m share r).answer = f ∙ answer_sheet g angles cosines t slack people r.end ∙ rw (the_target, width, all_people) in
-        record { answer = rw (← same) (ap Ok whole-answer); ledger = ap (λ (x : Settled). x.ledger) same }
+        let whole-answer : a ≡ (settled_by m share r).answer = f ∙ answer_sheet g angles cosines t slack people end ∙ rw (the_target, width, all_people) in
+        record { answer = rw (← same) whole-answer; ledger = ap (λ (x : Settled). x.ledger) same }
 
 -- ---- what an accepted call knows at each of its steps
 
@@ -98,5 +97,5 @@ module _ (m : Map) (spacing : Spacing) (share : Float) (l : Ledger) (lent : Buff
         }
 
     -- the map by its sums is the map
-    pub settled_map : {r : SmallestResult} → IsSettled (smallest (globe_map m.globe last) spacing share l) r → IsSettled (smallest m spacing share l) r
+    pub settled_map : {a : Smallest} {l' : Ledger} → IsSettled (smallest (globe_map m.globe last) spacing share l) a l' → IsSettled (smallest m spacing share l) a l'
     settled_map s = rw (globe_map_lem m lent.sums last to_fill (filled ∙ bare_filled m lent.sums)) at s

@@ -12,7 +12,7 @@ ghost use Rattle.smallest_rules.specs.State.{IsSettled};
 
 use grid::{Grid, Refusal};
 use ledger::Ledger;
-use smallest_rules::SmallestResult;
+use probes::Smallest;
 use spacing::Spacing;
 
 // The smallest radius of a map whose questions are answered and whose sums are filled.
@@ -25,25 +25,20 @@ fn settle(
     following: &mut [u64],
     share: f64,
     spacing: Spacing,
-    ledger: Ledger,
-) -> SmallestResult
-    requires { CanSettle grid angles.now cosines.now sums.now current.old following.old ledger }
+    ledger: &mut Ledger,
+) -> Smallest
+    requires { CanSettle grid angles.now cosines.now sums.now current.old following.old ledger.old }
     ensures { IsSettled
-        (smallest (summed_map grid angles.now cosines.now sums.now) spacing share ledger)
-        result }
+        (smallest (summed_map grid angles.now cosines.now sums.now) spacing share ledger.old)
+        result ledger.new }
 {
     let total = table::whole_at(grid, sums);
     let target = share::target_of(share, total);
     let slack = share::predicate_slack_persons(grid, target.total);
-    let ran = run::run(
+    let end = run::run(
         grid, angles, cosines, sums, current, following, spacing, target, slack, total, ledger,
     );
-    SmallestResult {
-        answer: Ok(run_end::conclude(
-            grid, angles, target, slack, total, ran.end,
-        )),
-        ledger: ran.ledger,
-    }
+    run_end::conclude(grid, angles, target, slack, total, end)
 }
 
 // The first question of the call that is answered no.
@@ -54,14 +49,14 @@ fn smallest_asked(
     cosines: &[f64],
     share: f64,
     spacing: Spacing,
-    ledger: Ledger,
+    ledger: &Ledger,
     sums: &[u64],
     current: &[u64],
     following: &[u64],
 ) -> Result<(), Refusal>
     ensures { answer_of result ≡ decide (first_no (smallest_questions
         (lent_map grid counts.now angles.now cosines.now)
-        spacing share ledger
+        spacing share ledger.now
         (buffers sums.now current.now following.now))) tt }
 {
     map_questions::map_asked(grid, counts, angles, cosines)?;
@@ -71,8 +66,7 @@ fn smallest_asked(
     smallest_rules::own_asked(grid, share, spacing, ledger)
 }
 
-// The smallest-radius call: the answer, or the first question that is answered no, beside the ledger after it. A refusal gives the
-// ledger back as it came. An accepted call fills the sums even where the ledger holds every probe, so that what it leaves does not hang on that.
+// The smallest-radius call: the answer, or the first question that is answered no. A refusal leaves the ledger as it was lent. An accepted call fills the sums even where the ledger holds every probe, so that what it leaves does not hang on that.
 pub fn smallest_radius(
     grid: Grid,
     counts: &[u32],
@@ -80,26 +74,21 @@ pub fn smallest_radius(
     cosines: &[f64],
     share: f64,
     spacing: Spacing,
-    ledger: Ledger,
+    ledger: &mut Ledger,
     sums: &mut [u64],
     current: &mut [u64],
     following: &mut [u64],
-) -> SmallestResult
-    ensures { smallest_gave result sums.new current.new following.new ≡ smallest_call
+) -> Result<Smallest, Refusal>
+    ensures { smallest_gave result ledger.new sums.new current.new following.new ≡ smallest_call
         (lent_map grid counts.now angles.now cosines.now)
-        spacing share ledger
+        spacing share ledger.old
         (buffers sums.old current.old following.old) }
 {
-    if let Err(refusal) = smallest_asked(
+    smallest_asked(
         grid, counts, angles, cosines, share, spacing, ledger, sums, current, following,
-    ) {
-        return SmallestResult {
-            answer: Err(refusal),
-            ledger,
-        };
-    }
+    )?;
     sums_fill::fill_sums(grid, counts, sums);
-    settle(
+    Ok(settle(
         grid, angles, cosines, sums, current, following, share, spacing, ledger,
-    )
+    ))
 }

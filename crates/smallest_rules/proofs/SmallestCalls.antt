@@ -3,7 +3,7 @@ use Prim.Native.Nat.{ℕ}
 use mathlib.Core.Path.{◌≡◌, refl}
 use mathlib.Core.Bool.{true}
 use mathlib.Core.List.{List}
-use Rattle.std.specs.Prelude.{Err}
+use Rattle.std.specs.Prelude.{Ok, Err}
 use lib.Ieee.{Float}
 use lib.ListN.{length}
 use Rattle.grid.specs.Map.{Map}
@@ -18,7 +18,7 @@ use Rattle.ledger.specs.declared.Ledger.{Ledger}
 use Rattle.ledger.specs.Ledger.{ledger_in_order, places_free}
 use Rattle.climb.specs.Climb.{most_radii}
 use Rattle.probes.specs.Smallest.{smallest}
-use Rattle.smallest_rules.specs.declared.SmallestResult.{SmallestResult}
+use Rattle.probes.specs.declared.Smallest.{Smallest}
 use Rattle.smallest_rules.specs.Call.{own_questions, smallest_own, smallest_questions, smallest_call, smallest_gave}
 use Rattle.smallest_rules.specs.State.{IsSettled}
 
@@ -32,15 +32,15 @@ module _ (m : Map) (spacing : Spacing) (share : Float) (l : Ledger) (lent : Buff
   -- ---- what the call gives
 
   pub smallest_refused : (r : Refusal) → refused (number r) ≡ decide (first_no (smallest_questions m spacing share l lent)) (tt {0})
-      → smallest_gave (record { answer = Err r; ledger = l }) lent.sums lent.current lent.following ≡ smallest_call m spacing share l lent
+      → smallest_gave (Err r) l lent.sums lent.current lent.following ≡ smallest_call m spacing share l lent
   unfolding smallest_call buffers_after after shown
   smallest_refused r e = rw (refused_alike (number r) (first_no (smallest_questions m spacing share l lent)) tt (smallest m spacing share l).answer e)
 
-  pub smallest_answered : (r : SmallestResult) (sums current following : List ℕ) → first_no (smallest_questions m spacing share l lent) ≡ 0
-      → IsSettled (smallest m spacing share l) r → sums ≡ filled_sums m lent.sums → length current ≡ length lent.current → length following ≡ length lent.following
-      → smallest_gave r sums current following ≡ smallest_call m spacing share l lent
+  pub smallest_answered : (a : Smallest) (l' : Ledger) (sums current following : List ℕ) → first_no (smallest_questions m spacing share l lent) ≡ 0
+      → IsSettled (smallest m spacing share l) a l' → sums ≡ filled_sums m lent.sums → length current ≡ length lent.current → length following ≡ length lent.following
+      → smallest_gave (Ok a) l' sums current following ≡ smallest_call m spacing share l lent
   unfolding smallest_call buffers_after after shown
-  smallest_answered r sums current following e f s n k =
+  smallest_answered a l' sums current following e f s n k =
       rw (decide_yes (first_no (smallest_questions m spacing share l lent)) (smallest m spacing share l).answer e, f.answer, f.ledger, s, n, k)
 
 -- ---- what an accepted call knows of its ledger

@@ -1,6 +1,7 @@
 -- The smallest-radius call.
-use Rattle.std.specs.Prelude.{ℕ, List, [], ◌∷◌, ◌++◌, Float}
+use Rattle.std.specs.Prelude.{Result, ℕ, List, [], ◌∷◌, ◌++◌, Float}
 use Rattle.grid.specs.declared.Grid.{Grid}
+use Rattle.grid.specs.declared.refusal.Refusal.{Refusal}
 use Rattle.grid.specs.Map.{Map}
 use Rattle.grid.specs.Answer.{Question, question, first_no, Answer, decide, after, shown}
 use Rattle.grid.specs.Refusal.{answer_of}
@@ -14,7 +15,6 @@ use Rattle.climb.specs.Climb.{most_radii}
 use Rattle.share.specs.Target.{share_in_range}
 use Rattle.probes.specs.declared.Smallest.{Smallest}
 use Rattle.probes.specs.Smallest.{smallest}
-use Rattle.smallest_rules.specs.declared.SmallestResult.{SmallestResult}
 
 -- the questions of the call after the map's and that of the buffers
 unfoldable pub own_questions : Grid → Spacing → Float → Ledger → List Question
@@ -41,11 +41,11 @@ smallest_call m spacing share l lent =
     let answer = decide (first_no (smallest_questions m spacing share l lent)) settled.answer in
     record { answer = answer; ledger = after answer settled.ledger l; lent = buffers_after answer m lent }
 
--- what a call has given: its answer, its ledger, and the buffers as it leaves them, the level buffers as far as they are stated
-abbrev pub smallest_gave : SmallestResult → List ℕ → List ℕ → List ℕ → SmallestOutcome
-smallest_gave r sums current following =
-    let answer = answer_of r.answer in
-    record { answer = answer; ledger = r.ledger; lent = buffers sums (shown answer current) (shown answer following) }
+-- what a call has given: its answer, and the ledger and the buffers as it leaves them, the level buffers as far as they are stated
+abbrev pub smallest_gave : Result Smallest Refusal → Ledger → List ℕ → List ℕ → List ℕ → SmallestOutcome
+smallest_gave r l sums current following =
+    let answer = answer_of r in
+    record { answer = answer; ledger = l; lent = buffers sums (shown answer current) (shown answer following) }
 
 -- opens all of the above, for facts that are computed
 unfoldable pub open_smallest_calls : Unit {0}

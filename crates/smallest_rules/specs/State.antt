@@ -1,9 +1,10 @@
 -- How the code sees what a smallest radius has come to.
-use Rattle.std.specs.Prelude.{◌≡◌, Ok}
+use Rattle.std.specs.Prelude.{◌≡◌}
 use Rattle.probes.specs.Smallest.{Settled}
-use Rattle.smallest_rules.specs.declared.SmallestResult.{SmallestResult}
+use Rattle.probes.specs.declared.Smallest.{Smallest}
+use Rattle.ledger.specs.declared.Ledger.{Ledger}
 
 -- the definition's answer and ledger
-pub record IsSettled (s : Settled) (r : SmallestResult) : Type 0 where
-  pub answer : r.answer ≡ Ok s.answer
-  pub ledger : r.ledger ≡ s.ledger
+pub record IsSettled (s : Settled) (a : Smallest) (l : Ledger) : Type 0 where
+  pub answer : a ≡ s.answer
+  pub ledger : l ≡ s.ledger

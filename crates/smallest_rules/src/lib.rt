@@ -9,20 +9,12 @@ ghost use Rattle.smallest_rules.specs.Call.{own_questions};
 use climb::MOST_RADII;
 use grid::{Grid, Refusal};
 use ledger::Ledger;
-use probes::Smallest;
 use spacing::Spacing;
-
-// The smallest radius or the refusal, beside the ledger after the call.
-#[derive(Clone, Copy)]
-pub struct SmallestResult {
-    pub answer: Result<Smallest, Refusal>,
-    pub ledger: Ledger,
-}
 
 // The first of the questions 9 to 12 that is answered no.
 #[tactic(auto, unfolding(crate::specs::Call::own_questions, grid::specs::Answer::first_no, grid::specs::Answer::decide))]
-pub fn own_asked(grid: Grid, share: f64, spacing: Spacing, ledger: Ledger) -> Result<(), Refusal>
-    ensures { answer_of result ≡ decide (first_no (own_questions grid spacing share ledger)) tt }
+pub fn own_asked(grid: Grid, share: f64, spacing: Spacing, ledger: &Ledger) -> Result<(), Refusal>
+    ensures { answer_of result ≡ decide (first_no (own_questions grid spacing share ledger.now)) tt }
 {
     if !share::share_in_range(share) {
         return Err(Refusal::Share);

@@ -16,8 +16,8 @@ reused-state-requires c =
     loop_reuses c.requires c.args.spacing c.loop-grid.invariant.0 (sym c.closed.ensures ∙ c.loop-grid-test.true) c.radius-km.result.0
     (sym c.get.ensures ∙ c.in-Some.is)
 
-pub put-held-requires : goal.put-held-requires
-put-held-requires c =
+pub put-requires : goal.put-requires
+put-requires c =
     loop_puts c.requires c.args.spacing c.loop-grid.invariant.0 (sym c.closed.ensures ∙ c.loop-grid-test.true) c.entry_of.result
 
 pub evaluated-state-requires : goal.evaluated-state-requires
@@ -30,17 +30,17 @@ next-bracket-requires c = loop_fits c.requires c.args.spacing c.loop-grid.invari
 
 -- one probe on: the ledger and the state are those after the probe, on whichever way
 next : (c : After-next-bracket)
-    → Looping c.requires c.args.spacing c.match-get.held c.match-get.state c.next-bracket.result
+    → Looping c.requires c.args.spacing c.match-get.ledger c.match-get.state c.next-bracket.result
     × (probe_count c.match-get.state ≡ probe_count c.loop-grid.state + 1)
 next c =
     let h = c.loop-grid in
     let a = c.args in
     let j = c.match-get in
-    let probed : ProbedTo (summed_map a.grid a.angles.now a.cosines.now a.sums.now) a.spacing a.target.persons a.slack h.held h.state c.radius-km.result.0 j.held j.state =
+    let probed : ProbedTo (summed_map a.grid a.angles.now a.cosines.now a.sums.now) a.spacing a.target.persons a.slack h.ledger h.state c.radius-km.result.0 j.ledger j.state =
     elim j.branch [
-      | in-Some w ↦ after_reuse _ _ _ _ _ _ _ (sym c.get.ensures ∙ w.in-Some.is) w.held-is (w.state-is ∙ w.reused-state.ensures)
+      | in-Some w ↦ after_reuse _ _ _ _ _ _ _ (sym c.get.ensures ∙ w.in-Some.is) w.ledger-is (w.state-is ∙ w.reused-state.ensures)
       | in-None w ↦
-          after_search _ _ _ _ _ _ _ (sym c.get.ensures ∙ w.in-None.is) w.search_at-found.ensures w.entry_of.ensures (w.held-is ∙ w.put-held.ensures)
+          after_search _ _ _ _ _ _ _ (sym c.get.ensures ∙ w.in-None.is) w.search_at-found.ensures w.entry_of.ensures (w.ledger-is ∙ w.put.ensures)
           (w.state-is ∙ w.evaluated-state.ensures)
     ] in
     loop_goes_on c.requires a.spacing h.invariant.0 (sym c.closed.ensures ∙ c.loop-grid-test.true) c.radius-km.ensures probed c.next-bracket.ensures

@@ -10,7 +10,7 @@ use Rattle.run.proofs.run.Given as goal
 
 abbrev pub invariant-loop-grid : goal.invariant-loop-grid
 invariant-loop-grid l =
-    Running (summed_map l.grid l.angles l.cosines l.sums) l.spacing l.persons l.slack l.total l.initial.held l.held l.state l.bracket
+    Running (summed_map l.grid l.angles l.cosines l.sums) l.spacing l.persons l.slack l.total l.initial.ledger l.ledger l.state l.bracket
     × (length l.current ≡ length l.initial.current) × (length l.following ≡ length l.initial.following)
 
 abbrev pub decreases-loop-grid : goal.decreases-loop-grid
