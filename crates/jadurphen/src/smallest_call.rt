@@ -5,7 +5,7 @@ ghost use Rattle.most_populous.specs.Call.{buffers};
 ghost use Rattle.crossings.specs.Crossing.{grid_from, spacing_from};
 ghost use Rattle.crossings.specs.Smallest.{smallest_returned, smallest_crossing};
 
-use grid::Grid;
+use grid::{Globe, Grid, Map};
 
 // Exported to C by crates/jadurphen_c: the smallest whole-kilometre radius whose best circle holds the share, as words and
 // floats, and the ledger after it.
@@ -43,6 +43,12 @@ pub fn jadurphen_smallest(
         lon_step,
         lat_step,
     };
+    let globe = Globe {
+        grid,
+        angles,
+        cosines,
+    };
+    let map = Map { globe, counts };
     let side = crossings::spacing_from(automatic, spacing);
     let before = words::ledger_of(ledger);
     let result = smallest::smallest_radius(

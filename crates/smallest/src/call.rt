@@ -2,7 +2,7 @@
 ghost use Rattle.std.specs.Prelude.{◌≡◌};
 ghost use Rattle.grid.specs.Answer.{first_no, decide};
 ghost use Rattle.grid.specs.Refusal.{answer_of};
-ghost use Rattle.grid.specs.Map.{lent_map};
+ghost use Rattle.grid.specs.Map.{map_lent};
 ghost use Rattle.levels.specs.State.{summed_map};
 ghost use Rattle.most_populous.specs.Call.{buffers};
 ghost use Rattle.probes.specs.Smallest.{smallest};
@@ -10,7 +10,7 @@ ghost use Rattle.smallest_rules.specs.Call.{smallest_questions, smallest_gave, s
 ghost use Rattle.smallest.specs.Requires.{CanSettle};
 ghost use Rattle.smallest_rules.specs.State.{IsSettled};
 
-use grid::{Grid, Refusal};
+use grid::{Grid, Map, Refusal};
 use ledger::Ledger;
 use probes::Smallest;
 use spacing::Spacing;
@@ -43,10 +43,7 @@ fn settle(
 
 // The first question of the call that is answered no.
 fn smallest_asked(
-    grid: Grid,
-    counts: &[u32],
-    angles: &[f64],
-    cosines: &[f64],
+    map: &Map<'_>,
     share: f64,
     spacing: Spacing,
     ledger: &Ledger,
@@ -55,23 +52,21 @@ fn smallest_asked(
     following: &[u64],
 ) -> Result<(), Refusal>
     ensures { answer_of result ≡ decide (first_no (smallest_questions
-        (lent_map grid counts.now angles.now cosines.now)
-        spacing share ledger.now
+        (map_lent map.now) spacing share ledger.now
         (buffers sums.now current.now following.now))) tt }
 {
-    map_questions::map_asked(grid, counts, angles, cosines)?;
+    map_questions::map_asked(map)?;
+    let grid = map.globe.grid;
     if !most_populous::buffers_fit(grid, sums, current, following) {
         return Err(Refusal::Buffers);
     }
     smallest_rules::own_asked(grid, share, spacing, ledger)
 }
 
-// The smallest-radius call: the answer, or the first question that is answered no. A refusal leaves the ledger as it was lent. An accepted call fills the sums even where the ledger holds every probe, so that what it leaves does not hang on that.
+// The smallest-radius call: the answer, or the first question that is answered no. A refusal leaves the ledger as it was lent. An accepted
+// call fills the sums even where the ledger holds every probe, so that what it leaves does not hang on that.
 pub fn smallest_radius(
-    grid: Grid,
-    counts: &[u32],
-    angles: &[f64],
-    cosines: &[f64],
+    map: &Map<'_>,
     share: f64,
     spacing: Spacing,
     ledger: &mut Ledger,
@@ -80,15 +75,21 @@ pub fn smallest_radius(
     following: &mut [u64],
 ) -> Result<Smallest, Refusal>
     ensures { smallest_gave result ledger.new sums.new current.new following.new ≡ smallest_call
-        (lent_map grid counts.now angles.now cosines.now)
-        spacing share ledger.old
+        (map_lent map.now) spacing share ledger.old
         (buffers sums.old current.old following.old) }
 {
-    smallest_asked(
-        grid, counts, angles, cosines, share, spacing, ledger, sums, current, following,
-    )?;
-    sums_fill::fill_sums(grid, counts, sums);
+    smallest_asked(map, share, spacing, ledger, sums, current, following)?;
+    let globe = map.globe;
+    sums_fill::fill_sums(globe.grid, map.counts, sums);
     Ok(settle(
-        grid, angles, cosines, sums, current, following, share, spacing, ledger,
+        globe.grid,
+        globe.angles,
+        globe.cosines,
+        sums,
+        current,
+        following,
+        share,
+        spacing,
+        ledger,
     ))
 }

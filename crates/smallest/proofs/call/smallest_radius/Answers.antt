@@ -1,7 +1,7 @@
 -- `smallest::call::smallest_radius`: refused with nothing written, or accepted, filled and settled.
 use Rattle.std.proofs.Common.{rules, ◌≡◌, ◌∙◌}
 use Rattle.grid.specs.Answer.{first_no, shown}
-use Rattle.grid.specs.Map.{Map, lent_map}
+use Rattle.grid.specs.Map.{Map, map_lent}
 use Rattle.grid.proofs.Answers.{PassedCall, decided_yes}
 use Rattle.sums_fill.proofs.Tables.{bare_filled}
 use Rattle.smallest_rules.specs.Call.{smallest_own, smallest_questions}
@@ -18,7 +18,7 @@ returns-in_err-smallest_asked c = search (rules, smallest_refused)
 -- past the questions
 module _ (e : In_ok-smallest_asked) where
   abbrev given : Map
-  given = let a = e.args in lent_map a.grid a.counts.now a.angles.now a.cosines.now
+  given = map_lent e.args.map.now
 
   abbrev lent : Buffers
   lent = let a = e.args in buffers a.sums.now a.current.now a.following.now
@@ -26,7 +26,7 @@ module _ (e : In_ok-smallest_asked) where
   none_left : first_no (smallest_questions given e.args.spacing e.args.share e.args.ledger.now lent) ≡ 0
   none_left = (decided_yes _ tt _ e.in_ok-smallest_asked.ensures).0
 
-  passed : PassedCall given (smallest_own e.args.grid e.args.spacing e.args.share e.args.ledger.now lent)
+  passed : PassedCall given (smallest_own e.args.map.now.globe.grid e.args.spacing e.args.share e.args.ledger.now lent)
   passed = smallest_passed _ _ _ _ _ none_left
 
 pub fill_sums-requires : goal.fill_sums-requires
@@ -34,11 +34,11 @@ fill_sums-requires c = to_fill _ _ _ _ _ (passed (goal.at.fill_sums-requires c).
 
 pub settle-requires : goal.settle-requires
 settle-requires c =
-    to_settle _ _ _ _ _ (passed (goal.at.settle-requires c).In_ok-smallest_asked) _ c.fill_sums.ensures (λ i. (c.type_inv.counts i).fits)
+    to_settle _ _ _ _ _ (passed (goal.at.settle-requires c).In_ok-smallest_asked) _ c.fill_sums.ensures.filled c.fill_sums.ensures.small
 
 pub returns : goal.returns
 returns c =
     let e = (goal.at.returns c).In_ok-smallest_asked in
     let f = c.fill_sums in
-    smallest_answered _ _ _ _ _ c.settle.result _ _ _ _ (none_left e) (settled_map _ _ _ _ _ (passed e) _ f.ensures c.settle.ensures)
-    (f.ensures ∙ bare_filled (given e) _) c.settle.auto.current c.settle.auto.following
+    smallest_answered _ _ _ _ _ c.settle.result _ _ _ _ (none_left e) (settled_map _ _ _ _ _ (passed e) _ f.ensures.filled c.settle.ensures)
+    (f.ensures.filled ∙ bare_filled (given e) _) c.settle.auto.current c.settle.auto.following
