@@ -45,7 +45,7 @@ pub fn jadurphen_put(
     let mut held = words::ledger_of(ledger);
     match put::put_lent(&mut held, grid, Entry { km, centre }) {
         Ok(()) => {
-            words::write_ledger(held, ledger);
+            words::write_ledger(&held, ledger);
             0
         }
         Err(refusal) => refusal.number(),

@@ -50,13 +50,13 @@ pub fn jadurphen_smallest(
     };
     let map = Map { globe, counts };
     let side = crossings::spacing_from(automatic, spacing);
-    let before = words::ledger_of(ledger);
-    let result = smallest::smallest_radius(
-        grid, counts, angles, cosines, share, side, before, sums, current, following,
+    let mut held = words::ledger_of(ledger);
+    let answer = smallest::smallest_radius(
+        grid, counts, angles, cosines, share, side, &mut held, sums, current, following,
     );
-    match result.answer {
+    match answer {
         Ok(found) => {
-            words::write_ledger(result.ledger, ledger);
+            words::write_ledger(&held, ledger);
             *words = crossings::smallest_words(found);
             *floats = crossings::smallest_floats(found);
             0

@@ -108,11 +108,13 @@ fn write_place(words: &mut [u64], at: usize, entry: Entry)
 }
 
 // The words of a ledger, written over those lent. The number of entries comes last, so that the loop starts from the words as they were lent.
-pub fn write_ledger(ledger: Ledger, words: &mut [u64])
+// The places are gone through as a slice, which tells that the array is whole: a lent ledger's type doesn't.
+pub fn write_ledger(ledger: &Ledger, words: &mut [u64])
     requires { length words.old ≡ ledger_length }
-    ensures { words.new ≡ ledger_words ledger }
+    ensures { words.new ≡ ledger_words ledger.now }
 {
-    for (i, entry) in ledger.places.iter().enumerate() {
+    let places: &[Entry] = &ledger.places;
+    for (i, entry) in places.iter().enumerate() {
         write_place(words, 1 + 4 * i, *entry);
     }
     words[0] = ledger.len as u64;
