@@ -51,10 +51,7 @@ pub fn jadurphen_smallest(
     let map = Map { globe, counts };
     let side = crossings::spacing_from(automatic, spacing);
     let mut held = words::ledger_of(ledger);
-    let answer = smallest::smallest_radius(
-        grid, counts, angles, cosines, share, side, &mut held, sums, current, following,
-    );
-    match answer {
+    match smallest::smallest_radius(&map, share, side, &mut held, sums, current, following) {
         Ok(found) => {
             words::write_ledger(&held, ledger);
             *words = crossings::smallest_words(found);

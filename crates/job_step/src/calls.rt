@@ -3,7 +3,7 @@ ghost use Rattle.std.specs.Prelude.{◌≡◌};
 ghost use Rattle.smallest_rules.specs.Call.{smallest_call};
 ghost use Rattle.most_populous.specs.Call.{search_call};
 ghost use Rattle.job_commands.specs.declared.Command.TheVariants.{Most, Least};
-ghost use Rattle.grid.specs.Map.{lent_map};
+ghost use Rattle.grid.specs.Map.{map_lent};
 ghost use Rattle.grid.specs.Refusal.{answer_of};
 ghost use Rattle.job_world.specs.State.{job_map};
 ghost use Rattle.job_rules.specs.Apply.{job_spacing, job_buffers};
@@ -11,7 +11,7 @@ ghost use Rattle.job_rules.specs.State.{later_in};
 ghost use Rattle.job_step.specs.State.{IsLeast, settled_in};
 
 use crate::change;
-use grid::{Grid, Refusal};
+use grid::{Globe, Map, Refusal};
 use job_rules::Applied;
 use job_world::JobState;
 use search_rules::MostPopulous;
@@ -30,24 +30,19 @@ fn spacing_of(spacing: u32) -> Spacing
 }
 
 // The map in a state's arrays: of each as many places as the grid has.
-#[derive(Drop)]
-struct MapPart<'a> {
-    grid: Grid,
-    counts: &'a [u32],
-    angles: &'a [f64],
-    cosines: &'a [f64],
-}
-
 #[tactic(auto, using(job_world::proofs::Fronts::fronts), unfolding(job_sizes::specs::Sizes::places_of))]
-fn map_part(state: &JobState) -> MapPart<'_>
-    ensures { lent_map result.grid result.counts.now result.angles.now result.cosines.now ≡ job_map state.now }
+fn map_of(state: &JobState) -> Map<'_>
+    ensures { map_lent result ≡ job_map state.now }
 {
     let places = job_sizes::places_of(state.grid);
-    MapPart {
+    let globe = Globe {
         grid: state.grid,
-        counts: &state.counts[..places.counts],
         angles: &state.angles[..places.angles],
         cosines: &state.cosines[..places.cosines],
+    };
+    Map {
+        globe,
+        counts: &state.counts[..places.counts],
     }
 }
 
@@ -56,13 +51,10 @@ fn map_part(state: &JobState) -> MapPart<'_>
 fn most_of(state: JobState, spacing: u32, km: u32) -> Result<MostPopulous, Refusal>
     ensures { answer_of result ≡ (search_call (job_map state) (job_spacing spacing) km job_buffers).answer }
 {
-    let map = map_part(&state);
+    let map = map_of(&state);
     let side = spacing_of(spacing);
     most_populous::most_populous(
-        map.grid,
-        map.counts,
-        map.angles,
-        map.cosines,
+        &map,
         km,
         side,
         &mut [0; job_sizes::SUMS],
@@ -85,13 +77,10 @@ pub(crate) fn run_most(state: JobState, spacing: u32, km: u32) -> Result<Applied
 fn least_of(state: JobState, spacing: u32, share: f64) -> SmallestResult
     ensures { IsLeast (smallest_call (job_map state) (job_spacing spacing) share state.ledger job_buffers) result }
 {
-    let map = map_part(&state);
+    let map = map_of(&state);
     let side = spacing_of(spacing);
     smallest::smallest_radius(
-        map.grid,
-        map.counts,
-        map.angles,
-        map.cosines,
+        &map,
         share,
         side,
         state.ledger,
