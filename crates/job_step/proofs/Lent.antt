@@ -5,14 +5,13 @@ use lib.Ieee.{Float}
 use Rattle.grid.specs.Map.{Map}
 use Rattle.spacing.specs.declared.Spacing.{Spacing}
 use Rattle.search_rules.specs.declared.MostPopulous.{MostPopulous}
-use Rattle.std.specs.Prelude.{Ok, Err}
+use Rattle.std.specs.Prelude.{Result, Ok, Err}
 use Rattle.grid.specs.declared.refusal.Refusal.{Refusal}
 use Rattle.grid.specs.Refusal.{number, answer_of}
 use Rattle.grid.specs.Answer.{Answer, answered, refused}
 use Rattle.most_populous.specs.Call.{Buffers, SearchOutcome, search_call}
 use Rattle.ledger.specs.declared.Ledger.{Ledger}
 use Rattle.probes.specs.declared.Smallest.{Smallest}
-use Rattle.smallest_rules.specs.declared.SmallestResult.{SmallestResult}
 use Rattle.smallest_rules.specs.Call.{SmallestOutcome, smallest_call}
 use Rattle.job_commands.specs.declared.Command.TheVariants.{Most, Least}
 use Rattle.job_lines.specs.declared.Line.{Line}
@@ -46,20 +45,20 @@ search_lent m p km o n q h d e = rw (sym d, sym e) (ap (λ (x : SearchOutcome). 
 
 -- ---- R
 
-module _ (s : JobState) (spacing : ℕ) (share : Float) {r : SmallestResult}
-    (is : IsLeast (smallest_call (job_map s) (job_spacing spacing) share s.ledger job_buffers) r) where
-  pub least_found : {a : Smallest} {t : JobState} {line : Line} → r.answer ≡ Ok a → t ≡ ledger_state s r.ledger → line ≡ line_of (least_line a)
+module _ (s : JobState) (spacing : ℕ) (share : Float) {r : Result Smallest Refusal} {l : Ledger}
+    (is : IsLeast (smallest_call (job_map s) (job_spacing spacing) share s.ledger job_buffers) r l) where
+  pub least_found : {a : Smallest} {t : JobState} {line : Line} → r ≡ Ok a → t ≡ ledger_state s l → line ≡ line_of (least_line a)
       → gone_on t line ≡ later_in s (Least spacing share)
   unfolding in_world world_of least_done command_state
   least_found {a} e p q =
-      gone_on_lem s (Least spacing share) {w = world (job_map s) r.ledger} {printed = least_line a} (rw (sym is.answer, e, is.ledger)) (p ∙ ap (ledger_state s) is.ledger) q
+      gone_on_lem s (Least spacing share) {w = world (job_map s) l} {printed = least_line a} (rw (sym is.answer, e, is.ledger)) (p ∙ ap (ledger_state s) is.ledger) q
 
-  pub least_refused : {e : Refusal} → r.answer ≡ Err e → refused_in s (number e) ≡ later_in s (Least spacing share)
+  pub least_refused : {e : Refusal} → r ≡ Err e → refused_in s (number e) ≡ later_in s (Least spacing share)
   unfolding in_world world_of least_done
   least_refused {e} h = refused_by s (Least spacing share) (rw (sym is.answer, h))
 
-pub smallest_lent : (m : Map) (p : Spacing) (share : Float) (l : Ledger) (r : SmallestResult) (lent : Buffers) (n : Map) (q : Spacing)
-    → ◌≡◌ {A = SmallestOutcome} (record { answer = answer_of r.answer; ledger = r.ledger; lent = lent }) (smallest_call n q share l job_buffers)
-    → n ≡ m → q ≡ p → IsLeast (smallest_call m p share l job_buffers) r
-smallest_lent m p share l r lent n q h d e =
+pub smallest_lent : (m : Map) (p : Spacing) (share : Float) (l : Ledger) (r : Result Smallest Refusal) (l' : Ledger) (lent : Buffers) (n : Map) (q : Spacing)
+    → ◌≡◌ {A = SmallestOutcome} (record { answer = answer_of r; ledger = l'; lent = lent }) (smallest_call n q share l job_buffers)
+    → n ≡ m → q ≡ p → IsLeast (smallest_call m p share l job_buffers) r l'
+smallest_lent m p share l r l' lent n q h d e =
     rw (sym d, sym e) (record { answer = ap (λ (x : SmallestOutcome). x.answer) h; ledger = ap (λ (x : SmallestOutcome). x.ledger) h })

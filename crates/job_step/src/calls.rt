@@ -14,8 +14,9 @@ use crate::change;
 use grid::{Globe, Map, Refusal};
 use job_rules::Applied;
 use job_world::JobState;
+use ledger::Ledger;
+use probes::Smallest;
 use search_rules::MostPopulous;
-use smallest_rules::SmallestResult;
 use spacing::Spacing;
 
 // A spacing of 0 is automatic.
@@ -72,10 +73,15 @@ pub(crate) fn run_most(state: JobState, spacing: u32, km: u32) -> Result<Applied
     Ok(change::go_on(state, job_lines::most_line(found)))
 }
 
-// The smallest radius on the map's part of the arrays.
+// The smallest radius on the map's part of the arrays, from a ledger that is lent.
 #[tactic(auto, using(crate::proofs::Lent::smallest_lent), unfolding(job_rules::specs::Apply::job_buffers))]
-fn least_of(state: JobState, spacing: u32, share: f64) -> SmallestResult
-    ensures { IsLeast (smallest_call (job_map state) (job_spacing spacing) share state.ledger job_buffers) result }
+fn least_of(
+    state: JobState,
+    spacing: u32,
+    share: f64,
+    ledger: &mut Ledger,
+) -> Result<Smallest, Refusal>
+    ensures { IsLeast (smallest_call (job_map state) (job_spacing spacing) share ledger.old job_buffers) result ledger.new }
 {
     let map = map_of(&state);
     let side = spacing_of(spacing);
@@ -83,7 +89,7 @@ fn least_of(state: JobState, spacing: u32, share: f64) -> SmallestResult
         &map,
         share,
         side,
-        state.ledger,
+        ledger,
         &mut [0; job_sizes::SUMS],
         &mut [0; job_sizes::CELLS],
         &mut [0; job_sizes::CELLS],
@@ -95,8 +101,8 @@ fn least_of(state: JobState, spacing: u32, share: f64) -> SmallestResult
 pub(crate) fn run_least(state: JobState, spacing: u32, share: f64) -> Result<Applied, Refusal>
     ensures { settled_in state result ≡ later_in state (Least spacing share) }
 {
-    let least = least_of(state, spacing, share);
-    let found = least.answer?;
-    let next = job_world::with_ledger(state, least.ledger);
+    let mut ledger = state.ledger;
+    let found = least_of(state, spacing, share, &mut ledger)?;
+    let next = job_world::with_ledger(state, ledger);
     Ok(change::go_on(next, job_lines::least_line(found)))
 }

@@ -31,10 +31,10 @@ fn by_lending(grid: Grid, line: &[u64], before: &Words, after: &mut Words) -> u3
         km: RadiusKm(test_lines::short_at(line, 3)),
         centre: Candidate::at(cell, test_lines::word_at(line, 6)),
     };
-    let result = put::put_by_lending(grid, words::ledger_of(before), entry);
-    let answer = result.answer;
-    words::write_ledger(result.ledger, after);
-    match answer {
+    let mut held = words::ledger_of(before);
+    let lent = put::put_lent(&mut held, grid, entry);
+    words::write_ledger(&held, after);
+    match lent {
         Ok(()) => 0,
         Err(refusal) => refusal.number(),
     }
