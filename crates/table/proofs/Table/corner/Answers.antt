@@ -9,12 +9,12 @@ use borrow.Author.Rules.{part_to_end}
 use Rattle.sums.specs.Sums.{sums_words}
 use Rattle.sums.specs.State.{table_map}
 use Rattle.sums.proofs.Laws.{corner_read, corner_place}
-use Rattle.sums.proofs.corner.Goals as goal
-use Rattle.sums.proofs.corner.Goals.{Start}
+use Rattle.table.proofs.Table.corner.Goals as goal
+use Rattle.table.proofs.Table.corner.Goals.{Start}
 
 -- the word is within the sums
-within : (c : Start) → c.args.row * (c.args.grid.width + 1) + c.args.col < sums_words c.args.grid
-within c = corner_place (table_map c.args.grid c.args.sums.now) c.args.row c.args.col c.requires.at_corner.row c.requires.at_corner.col
+within : (c : Start) → c.args.row * (c.args.self.grid.width + 1) + c.args.col < sums_words c.args.self.grid
+within c = corner_place (table_map c.args.self.grid c.args.self.sums.now) c.args.row c.args.col c.requires.row c.requires.col
 
 -- the part of a list from a place on: a place in it, and what is there
 part_place : (xs : List ℕ) (a k : ℕ) → a + k < length xs → k < length (take (length xs - a) (drop a xs))
@@ -24,17 +24,17 @@ part_read : (xs : List ℕ) (a k : ℕ) → get_or (take (length xs - a) (drop a
 part_read xs a k = ap (λ (l : List ℕ). get_or l k 0) (part_to_end xs a) ∙ get_or-drop a xs k 0
 
 pub slice_bounds-words-count : goal.slice_bounds-words-count
-slice_bounds-words-count c = omega (arith, within (goal.at.slice_bounds-words-count c).Start, c.requires.summed.room)
+slice_bounds-words-count c = omega (arith, within (goal.at.slice_bounds-words-count c).Start, c.args.self.summed.room)
 
 pub slice_bounds-words-start : goal.slice_bounds-words-start
-slice_bounds-words-start c = omega (arith, within (goal.at.slice_bounds-words-start c).Start, c.requires.summed.room)
+slice_bounds-words-start c = omega (arith, within (goal.at.slice_bounds-words-start c).Start, c.args.self.summed.room)
 
 pub bounds-words-col : goal.bounds-words-col
-bounds-words-col c = part_place c.args.sums.now _ c.args.col (omega (arith, within (goal.at.bounds-words-col c).Start, c.requires.summed.room))
+bounds-words-col c = part_place c.args.self.sums.now _ c.args.col (omega (arith, within (goal.at.bounds-words-col c).Start, c.args.self.summed.room))
 
 pub returns : goal.returns
 returns c =
     let a = c.args in
-    part_read a.sums.now _ a.col
-    ∙ corner_read (table_map a.grid a.sums.now) a.sums.now a.sums.now a.row a.col c.requires.summed.words c.requires.at_corner.row
-    c.requires.at_corner.col
+    part_read a.self.sums.now _ a.col
+    ∙ corner_read (table_map a.self.grid a.self.sums.now) a.self.sums.now a.self.sums.now a.row a.col c.args.self.summed.words c.requires.row
+    c.requires.col
