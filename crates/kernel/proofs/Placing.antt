@@ -49,7 +49,7 @@ module _ (g : Grid) (angles : List Float) (row : Row) (km : Float) (k : Kernel) 
 
   -- of a row of a sheet that has passed questions 1 and 6
   module _ (cosines : List Float) (sizes : sizes_in_range g ≡ true) (rules : sheet_in_order (globe_of g angles cosines) ≡ true)
-      (on : row.0 < g.height) (sums : List ℕ) (col : Col) where
+      (on : row.0 < g.height) (col : Col) where
     abbrev s : Globe
     s = globe_of g angles cosines
 
@@ -69,8 +69,8 @@ module _ (g : Grid) (angles : List Float) (row : Row) (km : Float) (k : Kernel) 
         }
 
     -- to the people of its circle, on the map that the sheet and the table make
-    pub lent_people : kernel_population (table_map g sums) k col ≡ population (globe_map s sums) km (record { row = row; col = col })
-    lent_people =
+    pub lent_people : (sums : List ℕ) → kernel_population (table_map g sums) k col ≡ population (globe_map s sums) km (record { row = row; col = col })
+    lent_people sums =
         people_sheet (globe_map s sums) k col ∙ ap (λ (x : Kernel). kernel_population (globe_map s sums) x col) sheet_is ∙ kernel_people (globe_map s sums) (in_order s rules) high row on km col
 
 -- ---- on a map that is accepted
@@ -83,7 +83,7 @@ module _ (m : Map) (p : Passed m) (row : Row) (on : row.0 < m.globe.grid.height)
   order = in_order m.globe p.order
 
   -- the kernel of the row and a radius, around a column, on a table of the map's counts
-  module _ (km : Float) (col : Col) (sums : List ℕ) (k : Kernel) (is : k ≡ kernel_of (sheet_of m.globe.grid m.globe.angles) row km) where
+  module _ (km : Float) (col : Col) (k : Kernel) (is : k ≡ kernel_of (sheet_of m.globe.grid m.globe.angles) row km) where
     built : k ≡ kernel_of m.globe row km
     built = is ∙ kernel_sheet m.globe row km
 
@@ -92,8 +92,8 @@ module _ (m : Map) (p : Passed m) (row : Row) (on : row.0 < m.globe.grid.height)
         let high = (grid_sizes m.globe.grid p.grid.sizes).rows in
         record { band = rw built (kernel_banded m.globe row km high on order); runs = rw built (kernel_joined m.globe row km high on order); on = c }
 
-    pub circle_people : table_map m.globe.grid sums ≡ counts_map m.globe.grid m.counts
+    pub circle_people : (sums : List ℕ) → table_map m.globe.grid sums ≡ counts_map m.globe.grid m.counts
         → kernel_population (table_map m.globe.grid sums) k col ≡ population m km (record { row = row; col = col })
-    circle_people e =
+    circle_people sums e =
         ap (λ (t : Map). kernel_population t k col) e ∙ people_sheet m k col ∙ ap (λ (x : Kernel). kernel_population m x col) built
         ∙ kernel_people m order (grid_sizes m.globe.grid p.grid.sizes).rows row on km col

@@ -78,12 +78,12 @@ module _ (g : Grid) (angles cosines : List Float) (sums : List ℕ) (t : Ready g
       pub probe_placed : CanSum g k p.col
       probe_placed =
           subst (λ (x : Cell). CanSum g k x.col) (sym p-is)
-          (lent_placed g angles (probe b).row km k is cosines t.sizes t.order probe_row_lem sums (probe b).col probe_column)
+          (lent_placed g angles (probe b).row km k is cosines t.sizes t.order probe_row_lem (probe b).col probe_column)
 
       pub probe_people : kernel_population (table_map g sums) k p.col ≡ population m km (probe b)
       probe_people =
           ap (λ (x : Cell). kernel_population (table_map g sums) k x.col) p-is
-          ∙ lent_people g angles (probe b).row km k is cosines t.sizes t.order probe_row_lem sums (probe b).col
+          ∙ lent_people g angles (probe b).row km k is cosines t.sizes t.order probe_row_lem (probe b).col sums
 
     pub can_count : (w : ChunkWork) → weight w.tally ≤ 2 ^ 30 → CanCount w b
     can_count w light = record { light = light; small = block_small; narrow = omega (arith, block_narrow) }

@@ -14,6 +14,7 @@ use grid::{Grid, Refusal};
 use ledger::Ledger;
 use smallest_rules::SmallestResult;
 use spacing::Spacing;
+use table::Table;
 
 // The smallest radius of a map whose questions are answered and whose sums are filled.
 fn settle(
@@ -32,16 +33,14 @@ fn settle(
         (smallest (summed_map grid angles.now cosines.now sums.now) spacing share ledger)
         result }
 {
-    let total = table::whole_at(grid, sums);
+    let total = Table { grid, sums }.whole();
     let target = share::target_of(share, total);
     let slack = share::predicate_slack_persons(grid, target.total);
     let ran = run::run(
         grid, angles, cosines, sums, current, following, spacing, target, slack, total, ledger,
     );
     SmallestResult {
-        answer: Ok(run_end::conclude(
-            grid, angles, target, slack, total, ran.end,
-        )),
+        answer: Ok(run_end::conclude(grid, angles, target, slack, total, ran.end)),
         ledger: ran.ledger,
     }
 }

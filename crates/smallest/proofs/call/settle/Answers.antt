@@ -4,13 +4,13 @@ use Rattle.smallest.proofs.call.settle.Goals as goal
 
 pub run-ran-requires : goal.run-ran-requires
 run-ran-requires c =
-    can_run c.requires c.args.spacing c.whole_at-total.ensures c.target_of-target.ensures c.predicate_slack_persons-slack.ensures
+    can_run c.requires c.args.spacing c.whole-total.ensures c.target_of-target.ensures c.predicate_slack_persons-slack.ensures
 
 pub conclude-requires : goal.conclude-requires
 conclude-requires c =
-    can_conclude c.requires c.args.spacing c.whole_at-total.ensures c.target_of-target.ensures c.predicate_slack_persons-slack.ensures c.run-ran.ensures
+    can_conclude c.requires c.args.spacing c.whole-total.ensures c.target_of-target.ensures c.predicate_slack_persons-slack.ensures c.run-ran.ensures
 
 pub returns : goal.returns
 returns c =
-    is_settled c.requires c.args.spacing c.whole_at-total.ensures c.target_of-target.ensures c.predicate_slack_persons-slack.ensures c.run-ran.ensures
+    is_settled c.requires c.args.spacing c.whole-total.ensures c.target_of-target.ensures c.predicate_slack_persons-slack.ensures c.run-ran.ensures
     c.conclude.ensures
