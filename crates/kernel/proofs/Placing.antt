@@ -12,8 +12,8 @@ use Rattle.grid.specs.Map.{Globe, Map, count, globe_of, sheet_of}
 use Rattle.grid.specs.Questions.{sizes_in_range, sheet_in_order}
 use Rattle.grid.proofs.Answers.{Passed}
 use Rattle.grid.proofs.Sizes.{grid_sizes}
-use Rattle.grid.proofs.SheetOrder.{InOrder, in_order}
-use Rattle.sums.specs.State.{table_map, counts_map, globe_map}
+use Rattle.grid.proofs.SheetOrder.{in_order}
+use Rattle.sums.specs.State.{table_map, counts_map}
 use Rattle.kernel.specs.declared.Kernel.{Kernel}
 use Rattle.circle_cells.specs.Circle.{population}
 use Rattle.kernel.specs.Kernel.{kernel_of, in_kernel, kernel_population}
@@ -68,10 +68,12 @@ module _ (g : Grid) (angles : List Float) (row : Row) (km : Float) (k : Kernel) 
           on = c;
         }
 
-    -- to the people of its circle, on the map that the sheet and the table make
-    pub lent_people : (sums : List ℕ) → kernel_population (table_map g sums) k col ≡ population (globe_map s sums) km (record { row = row; col = col })
-    lent_people sums =
-        people_sheet (globe_map s sums) k col ∙ ap (λ (x : Kernel). kernel_population (globe_map s sums) x col) sheet_is ∙ kernel_people (globe_map s sums) (in_order s rules) high row on km col
+    -- to the people of its circle, on the map that the sheet and the table's counts make
+    pub lent_people : (counts : List ℕ) → kernel_population (counts_map g counts) k col
+        ≡ population (record { globe = s; counts = counts }) km (record { row = row; col = col })
+    lent_people counts =
+        let m : Map = record { globe = s; counts = counts } in
+        people_sheet m k col ∙ ap (λ (x : Kernel). kernel_population m x col) sheet_is ∙ kernel_people m (in_order s rules) high row on km col
 
 -- ---- on a map that is accepted
 
@@ -79,21 +81,13 @@ module _ (m : Map) (p : Passed m) (row : Row) (on : row.0 < m.globe.grid.height)
   pub on_sheet : OnSheet m.globe.grid m.globe.angles row
   on_sheet = record { sheet = record { cosines = m.globe.cosines; sizes = p.grid.sizes; complete = p.sheet; order = p.order }; on = on }
 
-  order : InOrder m.globe
-  order = in_order m.globe p.order
-
   -- the kernel of the row and a radius, around a column, on a table of the map's counts
   module _ (km : Float) (col : Col) (k : Kernel) (is : k ≡ kernel_of (sheet_of m.globe.grid m.globe.angles) row km) where
-    built : k ≡ kernel_of m.globe row km
-    built = is ∙ kernel_sheet m.globe row km
-
     pub placed : col.0 < m.globe.grid.width → CanSum m.globe.grid k col
-    placed c =
-        let high = (grid_sizes m.globe.grid p.grid.sizes).rows in
-        record { band = rw built (kernel_banded m.globe row km high on order); runs = rw built (kernel_joined m.globe row km high on order); on = c }
+    placed = lent_placed m.globe.grid m.globe.angles row km k is m.globe.cosines p.grid.sizes p.order on col
 
     pub circle_people : (sums : List ℕ) → table_map m.globe.grid sums ≡ counts_map m.globe.grid m.counts
         → kernel_population (table_map m.globe.grid sums) k col ≡ population m km (record { row = row; col = col })
     circle_people sums e =
-        ap (λ (t : Map). kernel_population t k col) e ∙ people_sheet m k col ∙ ap (λ (x : Kernel). kernel_population m x col) built
-        ∙ kernel_people m order (grid_sizes m.globe.grid p.grid.sizes).rows row on km col
+        ap (λ (t : Map). kernel_population t k col) e
+        ∙ lent_people m.globe.grid m.globe.angles row km k is m.globe.cosines p.grid.sizes p.order on col m.counts

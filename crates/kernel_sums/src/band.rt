@@ -11,6 +11,7 @@ use table::Table;
 
 // The people of the cells that a kernel holds around a column. Rows of equal reach hold the same columns, so that a run of them is summed as
 // one band of the table, at the cost of one row. The kernel is lent, since a copy would cost as much as a small circle.
+#[tactic(auto, using(crate::proofs::People::people_north, crate::proofs::People::people_all))]
 pub fn circle_population(table: Table<'_>, kernel: &Kernel, col: Col) -> u64
     requires { CanSum table.grid kernel.now col }
     ensures { result ≡ kernel_population (table_map table.entry.grid table.entry.sums.now) kernel.now col }

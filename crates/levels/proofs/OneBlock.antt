@@ -16,7 +16,7 @@ use Rattle.grid.specs.Grid.{most_columns, most_rows, closing}
 use Rattle.grid.specs.Map.{Map}
 use Rattle.grid.specs.Questions.{sheet_complete}
 use Rattle.grid.proofs.Sizes.{Sizes, grid_sizes}
-use Rattle.sums.specs.State.{table_map}
+use Rattle.sums.specs.State.{table_map, counts_of}
 use Rattle.kernel.specs.declared.Kernel.{Kernel}
 use Rattle.circle_cells.specs.Circle.{population}
 use Rattle.kernel.specs.Kernel.{kernel_population}
@@ -83,7 +83,7 @@ module _ (g : Grid) (angles cosines : List Float) (sums : List ℕ) (t : Ready g
       pub probe_people : kernel_population (table_map g sums) k p.col ≡ population m km (probe b)
       probe_people =
           ap (λ (x : Cell). kernel_population (table_map g sums) k x.col) p-is
-          ∙ lent_people g angles (probe b).row km k is cosines t.sizes t.order probe_row_lem (probe b).col sums
+          ∙ lent_people g angles (probe b).row km k is cosines t.sizes t.order probe_row_lem (probe b).col (counts_of g sums)
 
     pub can_count : (w : ChunkWork) → weight w.tally ≤ 2 ^ 30 → CanCount w b
     can_count w light = record { light = light; small = block_small; narrow = omega (arith, block_narrow) }
