@@ -3,22 +3,10 @@
 
 ghost use Rattle.std.specs.Prelude.{◌≡◌, ◌<◌, ◌^◌, leb};
 ghost use Rattle.grid.specs.Grid.{closing};
-ghost use Rattle.sums.specs.Sums.{
-  corner as corner_of,
-  total,
-  rectangle_population,
-  band_population,
-  band_span as band_span_of,
-};
+ghost use Rattle.sums.specs.Sums.{corner, total, rectangle_population, band_population, band_span};
 ghost use Rattle.sums.specs.State.{table_map};
-ghost use Rattle.sums.specs.Requires.{
-  Summed,
-  AtCorner,
-  OnTable,
-  StripOnTable,
-  InlandOnTable,
-  InTable,
-};
+ghost use Rattle.sums.specs.Requires.{Summed, AtCorner, OnTable, InTable};
+ghost use Rattle.sums.specs.Requires.{StripOnTable, InlandOnTable};
 
 use grid::{Col, Grid};
 use sums::{ColSpan, RowBand, Rows};
@@ -46,7 +34,7 @@ impl<'a> Table<'a> {
     #[tactic(auto, using(sums::proofs::Laws::corner_place))]
     pub fn corner(self, row: u32, col: u32) -> u64
         requires { AtCorner self.grid row col }
-        ensures { result ≡ corner_of (table_map self.entry.grid self.entry.sums.now) row col }
+        ensures { result ≡ corner (table_map self.entry.grid self.entry.sums.now) row col }
     {
         let stride = self.grid.width as usize + 1;
         let from = row as usize * stride;
@@ -106,7 +94,7 @@ impl<'a> Table<'a> {
     #[tactic(auto, using(crate::proofs::Around::around), unfolding(grid::specs::Grid::closing))]
     pub fn band_span(self, band: RowBand, centre: Col, half: u32) -> u64
         requires { InTable self.grid band centre half }
-        ensures { result ≡ band_span_of (table_map self.entry.grid self.entry.sums.now) band centre half }
+        ensures { result ≡ band_span (table_map self.entry.grid self.entry.sums.now) band centre half }
     {
         let width = self.grid.width;
         if full_turn(self.grid, half) {
