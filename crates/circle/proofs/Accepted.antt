@@ -12,6 +12,7 @@ use Rattle.grid.proofs.CellOrder.{On, on_grid_lem}
 use Rattle.sums.specs.Sums.{filled_sums}
 use Rattle.sums.specs.State.{counts_map, table_map}
 use Rattle.sums_fill.specs.Requires.{Fillable}
+use Rattle.sums.specs.Requires.{Summed}
 use Rattle.sums_fill.proofs.Tables.{fillable, table_map_lem, summed}
 use Rattle.kernel.specs.declared.Kernel.{Kernel}
 use Rattle.circle_rules.specs.Call.{circle_own}
@@ -31,18 +32,22 @@ module _ (m : Map) (sums : List ℕ) (km : ℕ) (centre : Cell) (p : PassedCall 
   pub to_build : OnSheet m.globe.grid m.globe.angles centre.row
   to_build = on_sheet m p.map centre.row centre_on.row
 
-  -- once the sums are filled and the kernel is built, at the radius that the questions left
-  module _ (last : List ℕ) (filled : last ≡ filled_sums (counts_map m.globe.grid m.counts) sums) (r : ℕ) (same : km ≡ r)
-      (k : Kernel) (built : k ≡ kernel_of (sheet_of m.globe.grid m.globe.angles) centre.row (whole r)) where
+  -- once the sums are filled they make a table
+  module _ (last : List ℕ) (filled : last ≡ filled_sums (counts_map m.globe.grid m.counts) sums) where
+    pub to_ask : ((i : ℕ) → get_or m.counts i 0 < 2 ^ 32) → Summed m.globe.grid last
+    to_ask = summed m.globe.grid m.counts sums last to_fill filled
+
+    table_is : table_map m.globe.grid last ≡ counts_map m.globe.grid m.counts
+    table_is = table_map_lem m.globe.grid m.counts sums last to_fill filled
+
+  -- once the kernel is built, at the radius that the questions left, it can be summed, to the circle's people
+  module _ (r : ℕ) (same : km ≡ r) (k : Kernel) (built : k ≡ kernel_of (sheet_of m.globe.grid m.globe.angles) centre.row (whole r)) where
     is : k ≡ kernel_of (sheet_of m.globe.grid m.globe.angles) centre.row (whole km)
     is = rw same built
 
-    pub to_sum : ((i : ℕ) → get_or m.counts i 0 < 2 ^ 32) → CanSum m.globe.grid last k centre.col
-    to_sum small =
-        placed m p.map centre.row centre_on.row (whole km) centre.col last k is
-        (summed m.globe.grid m.counts sums last to_fill filled small) centre_on.col
+    pub to_sum : CanSum m.globe.grid k centre.col
+    to_sum = placed m p.map centre.row centre_on.row (whole km) centre.col k is centre_on.col
 
-    pub summed_up : kernel_population (table_map m.globe.grid last) k centre.col ≡ population m (whole km) centre
-    summed_up =
-        circle_people m p.map centre.row centre_on.row (whole km) centre.col last k is
-        (table_map_lem m.globe.grid m.counts sums last to_fill filled)
+    pub summed_up : (last : List ℕ) → last ≡ filled_sums (counts_map m.globe.grid m.counts) sums
+        → kernel_population (table_map m.globe.grid last) k centre.col ≡ population m (whole km) centre
+    summed_up last filled = circle_people m p.map centre.row centre_on.row (whole km) centre.col k is last (table_is last filled)

@@ -5,6 +5,7 @@ ghost use Rattle.circle_rules.specs.Call.{circle_gave, circle_call};
 
 use circle_rules::circle_asked;
 use grid::{Cell, Map, Refusal};
+use table::Table;
 
 // The population of the circle of a radius around a cell, or the first question answered no; a refusal writes nothing.
 pub fn circle(
@@ -21,13 +22,6 @@ pub fn circle(
     let counts = map.counts;
     sums_fill::fill_sums(grid, counts, sums);
     let kernel = kernel::build(grid, map.globe.angles, centre.row, radius.0 as f64);
-    Ok(kernel_sums::circle_population(
-        grid,
-        sums,
-        kernel.north,
-        kernel.end,
-        &kernel.reach,
-        &kernel.run,
-        centre.col,
-    ))
+    let table = Table { grid, sums };
+    Ok(kernel_sums::circle_population(table, &kernel, centre.col))
 }

@@ -1,11 +1,10 @@
--- What the kernel's functions ask and give: a kernel by its rows, one at hand with its row, its radius and its people, and from an accepted map
+-- What the kernel's functions ask and give: a kernel at hand with its row, its radius and its people, and from an accepted map
 -- its sheet, a kernel placed on its table and the circle's people.
 use Prim.Native.Nat.{ℕ, ◌≤◌, ◌<◌}
 use mathlib.Core.Path.{◌≡◌, refl, sym, ap, ◌∙◌}
 use mathlib.Core.Bool.{true}
 use mathlib.Core.List.{List}
 use lib.Ieee.{Float}
-use native.Mathlib.Omega.{arith}
 use Rattle.grid.specs.declared.Row.{Row}
 use Rattle.grid.specs.declared.Col.{Col}
 use Rattle.grid.specs.declared.Grid.{Grid}
@@ -13,16 +12,15 @@ use Rattle.grid.specs.Map.{Globe, Map, count, globe_of, sheet_of}
 use Rattle.grid.specs.Questions.{sizes_in_range, sheet_in_order}
 use Rattle.grid.proofs.Answers.{Passed}
 use Rattle.grid.proofs.Sizes.{grid_sizes}
-use Rattle.grid.proofs.SheetOrder.{InOrder, in_order}
-use Rattle.sums.specs.State.{table_map, counts_map, globe_map}
-use Rattle.sums.specs.Requires.{Summed}
+use Rattle.grid.proofs.SheetOrder.{in_order}
+use Rattle.sums.specs.State.{table_map, counts_map}
 use Rattle.kernel.specs.declared.Kernel.{Kernel}
 use Rattle.circle_cells.specs.Circle.{population}
 use Rattle.kernel.specs.Kernel.{kernel_of, in_kernel, kernel_population}
 use Rattle.reach.specs.Reach.{row_places}
 use Rattle.reach.specs.Requires.{OnSheet}
 use Rattle.kernel.specs.Requires.{CanSum}
-use Rattle.kernel.specs.State.{KernelAt, rows_only}
+use Rattle.kernel.specs.State.{KernelAt}
 use Rattle.kernel.proofs.Kernels.{kernel_sheet, kernel_banded, kernel_joined}
 use Rattle.kernel.proofs.Cells.{kernel_people}
 
@@ -30,25 +28,6 @@ use Rattle.kernel.proofs.Cells.{kernel_people}
 pub people_sheet : (m : Map) (k : Kernel) (col : Col) → kernel_population (counts_map m.globe.grid m.counts) k col ≡ kernel_population m k col
 unfolding kernel_population in_kernel count
 people_sheet m k col = refl
-
--- ---- a kernel by its rows alone
-
-abbrev pub rows_of : Kernel → Kernel
-rows_of k = rows_only k.north k.end k.reach k.run
-
-pub rows_placed : {g : Grid} {sums : List ℕ} {k : Kernel} {col : Col} → CanSum g sums k col → CanSum g sums (rows_of k) col
-rows_placed p =
-    let b = p.band in
-    record {
-      table = p.table;
-      band = record { north_on = omega arith; end_on = omega (arith, b.north_on, b.end_on); on = b.on; touched = b.touched; missed = b.missed };
-      runs = record { onward = p.runs.onward; within = p.runs.within; alike = p.runs.alike };
-      on = p.on;
-    }
-
-pub rows_people : (m : Map) (k : Kernel) (col : Col) → kernel_population m (rows_of k) col ≡ kernel_population m k col
-unfolding kernel_population in_kernel
-rows_people m k col = refl
 
 -- ---- a kernel at hand
 
@@ -68,9 +47,9 @@ module _ (g : Grid) (angles : List Float) (row : Row) (km : Float) (k : Kernel) 
   pub kernel_own : KernelAt g angles k.row km k
   kernel_own = kernel_kept k.row (sym (ap (λ (r : Row). r.0) kernel_row))
 
-  -- of a row of a sheet that has passed questions 1 and 6, and lent by its rows
+  -- of a row of a sheet that has passed questions 1 and 6
   module _ (cosines : List Float) (sizes : sizes_in_range g ≡ true) (rules : sheet_in_order (globe_of g angles cosines) ≡ true)
-      (on : row.0 < g.height) (sums : List ℕ) (col : Col) where
+      (on : row.0 < g.height) (col : Col) where
     abbrev s : Globe
     s = globe_of g angles cosines
 
@@ -81,21 +60,20 @@ module _ (g : Grid) (angles : List Float) (row : Row) (km : Float) (k : Kernel) 
     sheet_is = is ∙ kernel_sheet s row km
 
     -- it can be summed on a table
-    pub lent_placed : Summed g sums → col.0 < g.width → CanSum g sums (rows_of k) col
-    lent_placed t c =
-        rows_placed {k = k}
-        (record {
-          table = t;
+    pub lent_placed : col.0 < g.width → CanSum g k col
+    lent_placed c =
+        record {
           band = rw sheet_is (kernel_banded s row km high on (in_order s rules));
           runs = rw sheet_is (kernel_joined s row km high on (in_order s rules));
           on = c;
-        })
+        }
 
-    -- to the people of its circle, on the map that the sheet and the table make
-    pub lent_people : kernel_population (table_map g sums) (rows_of k) col ≡ population (globe_map s sums) km (record { row = row; col = col })
-    lent_people =
-        rows_people (table_map g sums) k col ∙ people_sheet (globe_map s sums) k col
-        ∙ ap (λ (x : Kernel). kernel_population (globe_map s sums) x col) sheet_is ∙ kernel_people (globe_map s sums) (in_order s rules) high row on km col
+    -- to the people of its circle, on the map that the sheet and the table's counts make
+    pub lent_people : (counts : List ℕ) → kernel_population (counts_map g counts) k col
+        ≡ population (record { globe = s; counts = counts }) km (record { row = row; col = col })
+    lent_people counts =
+        let m : Map = record { globe = s; counts = counts } in
+        people_sheet m k col ∙ ap (λ (x : Kernel). kernel_population m x col) sheet_is ∙ kernel_people m (in_order s rules) high row on km col
 
 -- ---- on a map that is accepted
 
@@ -103,21 +81,13 @@ module _ (m : Map) (p : Passed m) (row : Row) (on : row.0 < m.globe.grid.height)
   pub on_sheet : OnSheet m.globe.grid m.globe.angles row
   on_sheet = record { sheet = record { cosines = m.globe.cosines; sizes = p.grid.sizes; complete = p.sheet; order = p.order }; on = on }
 
-  order : InOrder m.globe
-  order = in_order m.globe p.order
-
   -- the kernel of the row and a radius, around a column, on a table of the map's counts
-  module _ (km : Float) (col : Col) (sums : List ℕ) (k : Kernel) (is : k ≡ kernel_of (sheet_of m.globe.grid m.globe.angles) row km) where
-    built : k ≡ kernel_of m.globe row km
-    built = is ∙ kernel_sheet m.globe row km
+  module _ (km : Float) (col : Col) (k : Kernel) (is : k ≡ kernel_of (sheet_of m.globe.grid m.globe.angles) row km) where
+    pub placed : col.0 < m.globe.grid.width → CanSum m.globe.grid k col
+    placed = lent_placed m.globe.grid m.globe.angles row km k is m.globe.cosines p.grid.sizes p.order on col
 
-    pub placed : Summed m.globe.grid sums → col.0 < m.globe.grid.width → CanSum m.globe.grid sums k col
-    placed t c =
-        let high = (grid_sizes m.globe.grid p.grid.sizes).rows in
-        record { table = t; band = rw built (kernel_banded m.globe row km high on order); runs = rw built (kernel_joined m.globe row km high on order); on = c }
-
-    pub circle_people : table_map m.globe.grid sums ≡ counts_map m.globe.grid m.counts
+    pub circle_people : (sums : List ℕ) → table_map m.globe.grid sums ≡ counts_map m.globe.grid m.counts
         → kernel_population (table_map m.globe.grid sums) k col ≡ population m km (record { row = row; col = col })
-    circle_people e =
-        ap (λ (t : Map). kernel_population t k col) e ∙ people_sheet m k col ∙ ap (λ (x : Kernel). kernel_population m x col) built
-        ∙ kernel_people m order (grid_sizes m.globe.grid p.grid.sizes).rows row on km col
+    circle_people sums e =
+        ap (λ (t : Map). kernel_population t k col) e
+        ∙ lent_people m.globe.grid m.globe.angles row km k is m.globe.cosines p.grid.sizes p.order on col m.counts

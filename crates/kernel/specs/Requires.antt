@@ -2,7 +2,6 @@
 use Rattle.std.specs.Prelude.{ℕ, ◌≤◌, ◌<◌, ◌≡◌, List, ◌⊎◌, get_or, length}
 use Rattle.grid.specs.declared.Col.{Col}
 use Rattle.grid.specs.declared.Grid.{Grid}
-use Rattle.sums.specs.Requires.{Summed}
 use Rattle.reach.specs.Reach.{row_places}
 use Rattle.kernel.specs.declared.Kernel.{Kernel}
 
@@ -32,9 +31,8 @@ pub record RunsJoined (k : Kernel) : Type 0 where
   pub within : (r : ℕ) → k.north.0 ≤ r → r < k.end → get_or k.run r 0 ≤ k.end
   pub alike : (r : ℕ) → k.north.0 ≤ r → r < k.end → (i : ℕ) → r ≤ i → i < get_or k.run r 0 → get_or k.reach i 0 ≡ get_or k.reach r 0
 
--- a table, a kernel and a column of one grid
-pub record CanSum (g : Grid) (sums : List ℕ) (k : Kernel) (col : Col) : Type 0 where
-  pub table : Summed g sums
+-- a kernel and a column of one grid, whose sums a table holds
+pub record CanSum (g : Grid) (k : Kernel) (col : Col) : Type 0 where
   pub band : Banded g k
   pub runs : RunsJoined k
   pub on : col.0 < g.width

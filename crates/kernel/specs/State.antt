@@ -1,6 +1,5 @@
 -- Kernels at hand, and where the runs of rows end on the way to one.
 use Rattle.std.specs.Prelude.{ℕ, ◌-◌, ◌≡◌, List, get_or, Float}
-use Rattle.floats.specs.Binary.{whole}
 use Rattle.grid.specs.declared.Row.{Row}
 use Rattle.grid.specs.declared.Grid.{Grid}
 use Rattle.grid.specs.Map.{sheet_of}
@@ -11,10 +10,6 @@ use Rattle.kernel.specs.Kernel.{run_end, kernel_of}
 -- a kernel is that of a row and a radius
 abbrev pub KernelAt : Grid → List Float → Row → Float → Kernel → Type 0
 KernelAt g angles row km k = k ≡ kernel_of (sheet_of g angles) row km
-
--- a kernel by its rows alone: nothing else of it counts for its people
-abbrev pub rows_only : Row → ℕ → List ℕ → List ℕ → Kernel
-rows_only north end reach run = record { row = north; km = whole 0; north = north; end = end; reach = reach; run = run }
 
 -- where the run of a row ends
 abbrev pub run_in : List ℕ → ℕ → ℕ

@@ -77,8 +77,8 @@ module _ (m : Map) (col : Col) (k : Kernel) (b : Banded m.globe.grid k) where
   pub people_north : sum_below k.north.0 (reach_people m col k.reach) ≡ 0
   people_north = sum_zeros k.north.0 (reach_people m col k.reach) (λ r h. people_missed m col k.reach r (b.missed r (inl h)))
 
-  pub people_all : sum_below k.end (reach_people m col k.reach) ≡ kernel_population m k col
+  pub people_all : (e : ℕ) → e ≡ k.end → sum_below e (reach_people m col k.reach) ≡ kernel_population m k col
   unfolding kernel_population in_kernel reach_people
-  people_all =
+  people_all e is =
       let south = seg_zeros k.end m.globe.grid.height (reach_people m col k.reach) (λ r h l. people_missed m col k.reach r (b.missed r (inr h))) in
-      omega (arith, sum_seg k.end m.globe.grid.height (reach_people m col k.reach) b.on, south)
+      rw is (omega (arith, sum_seg k.end m.globe.grid.height (reach_people m col k.reach) b.on, south))

@@ -10,9 +10,9 @@ use kernel::Kernel;
 // and of an even width the column so far east is the one so far west. A row that reaches it is therefore the full turn, each column once,
 // and not two sides that meet in a column counted twice.
 #[tactic(auto, using(grid::proofs::Sizes::grid_sizes))]
-pub fn covers(grid: Grid, kernel: Kernel) -> bool
+pub fn covers(grid: Grid, kernel: &Kernel) -> bool
     requires { sizes_in_range grid ≡ true }
-    ensures { result ≡ kernel_covers grid kernel }
+    ensures { result ≡ kernel_covers grid kernel.now }
 {
     let closing = grid::closing(grid);
     let rows = &kernel.reach[..grid.height as usize];

@@ -16,14 +16,14 @@ use Rattle.grid.specs.Grid.{most_columns, most_rows, closing}
 use Rattle.grid.specs.Map.{Map}
 use Rattle.grid.specs.Questions.{sheet_complete}
 use Rattle.grid.proofs.Sizes.{Sizes, grid_sizes}
-use Rattle.sums.specs.State.{table_map}
+use Rattle.sums.specs.State.{table_map, counts_of}
 use Rattle.kernel.specs.declared.Kernel.{Kernel}
 use Rattle.circle_cells.specs.Circle.{population}
 use Rattle.kernel.specs.Kernel.{kernel_population}
 use Rattle.kernel.specs.State.{KernelAt}
 use Rattle.reach.specs.Requires.{Sheet}
 use Rattle.kernel.specs.Requires.{CanSum}
-use Rattle.kernel.proofs.Placing.{rows_of, lent_placed, lent_people}
+use Rattle.kernel.proofs.Placing.{lent_placed, lent_people}
 use Rattle.blocks.specs.declared.Block.{Block}
 use Rattle.blocks.specs.Block.{area, probe, Rectangle}
 use Rattle.blocks.specs.Requires.{Small}
@@ -73,17 +73,17 @@ module _ (g : Grid) (angles cosines : List Float) (sums : List ℕ) (t : Ready g
     block_narrow =
         times_le (b.last.0 + 1 - b.first.0) (b.south.0 + 1 - b.north.0) most_columns most_rows (omega (arith, r.east, ready_sizes.columns)) (omega (arith, r.south, ready_sizes.rows))
 
-    -- a kernel of the probe's row, lent, around the probe's column
+    -- a kernel of the probe's row around the probe's column
     module _ (p : Cell) (p-is : p ≡ probe b) (km : Float) (k : Kernel) (is : KernelAt g angles (probe b).row km k) where
-      pub probe_placed : CanSum g sums (rows_of k) p.col
+      pub probe_placed : CanSum g k p.col
       probe_placed =
-          subst (λ (x : Cell). CanSum g sums (rows_of k) x.col) (sym p-is)
-          (lent_placed g angles (probe b).row km k is cosines t.sizes t.order probe_row_lem sums (probe b).col t.table probe_column)
+          subst (λ (x : Cell). CanSum g k x.col) (sym p-is)
+          (lent_placed g angles (probe b).row km k is cosines t.sizes t.order probe_row_lem (probe b).col probe_column)
 
-      pub probe_people : kernel_population (table_map g sums) (rows_of k) p.col ≡ population m km (probe b)
+      pub probe_people : kernel_population (table_map g sums) k p.col ≡ population m km (probe b)
       probe_people =
-          ap (λ (x : Cell). kernel_population (table_map g sums) (rows_of k) x.col) p-is
-          ∙ lent_people g angles (probe b).row km k is cosines t.sizes t.order probe_row_lem sums (probe b).col
+          ap (λ (x : Cell). kernel_population (table_map g sums) k x.col) p-is
+          ∙ lent_people g angles (probe b).row km k is cosines t.sizes t.order probe_row_lem (probe b).col (counts_of g sums)
 
     pub can_count : (w : ChunkWork) → weight w.tally ≤ 2 ^ 30 → CanCount w b
     can_count w light = record { light = light; small = block_small; narrow = omega (arith, block_narrow) }

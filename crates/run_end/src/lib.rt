@@ -38,7 +38,7 @@ fn covers(grid: Grid, angles: &[f64], end: RunEnd) -> bool
         return true;
     }
     let kernel = kernel::build(grid, angles, end.centre.row, end.radius_km.0 as f64);
-    kernel_sums::covers(grid, kernel)
+    kernel_sums::covers(grid, &kernel)
 }
 
 // The answer at the end of a run. The slack bounds how far rounding moves a population that is summed in binary64 row by row, as the original

@@ -14,6 +14,7 @@ use grid::{Grid, Map, Refusal};
 use ledger::Ledger;
 use probes::Smallest;
 use spacing::Spacing;
+use table::Table;
 
 // The smallest radius of a map whose questions are answered and whose sums are filled.
 fn settle(
@@ -32,7 +33,7 @@ fn settle(
         (smallest (summed_map grid angles.now cosines.now sums.now) spacing share ledger.old)
         result ledger.new }
 {
-    let total = table::whole_at(grid, sums);
+    let total = Table { grid, sums }.whole();
     let target = share::target_of(share, total);
     let slack = share::predicate_slack_persons(grid, target.total);
     let end = run::run(

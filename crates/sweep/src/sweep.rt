@@ -14,6 +14,7 @@ use chunk_work::ChunkWork;
 use grid::{Grid, Row};
 use kernel_sums::circle_population;
 use levels::ChunkResult;
+use table::Table;
 use tally::{SearchStats, Tally};
 
 // A chunk begins with what was held when its level began, and with two kernels that count as built: of the middle row and the plain radius.
@@ -78,6 +79,7 @@ pub(crate) fn chunk(
         (chunk (summed_map grid angles.now cosines.now sums.now) km best (blocks_from start end current.now))
         following.old live following.new result }
 {
+    let table = Table { grid, sums };
     let mut exact = kernel::build(grid, angles, Row(grid.height / 2), km);
     let mut one = exact;
     let mut one_shape = chunk_work::no_shape();
@@ -96,14 +98,14 @@ pub(crate) fn chunk(
                 one_shape = block;
             }
             wide = one.km;
-            bound = circle_population(grid, sums, one.north, one.end, &one.reach, &one.run, p.col);
+            bound = circle_population(table, &one, p.col);
         } else {
             if !blocks::same_shape(two_shape, block) {
                 two = bounds::wide_kernel(grid, angles, cosines, km, block);
                 two_shape = block;
             }
             wide = two.km;
-            bound = circle_population(grid, sums, two.north, two.end, &two.reach, &two.run, p.col);
+            bound = circle_population(table, &two, p.col);
         }
         let survives = chunk_work::survives(work, bound);
         let mut population = bound;
@@ -111,15 +113,7 @@ pub(crate) fn chunk(
             if exact.row != p.row {
                 exact = kernel::build(grid, angles, p.row, km);
             }
-            population = circle_population(
-                grid,
-                sums,
-                exact.north,
-                exact.end,
-                &exact.reach,
-                &exact.run,
-                p.col,
-            );
+            population = circle_population(table, &exact, p.col);
         }
         work = chunk_work::examined(work, block, wide, survives, population);
         at = write_children(survives, block, following, at);

@@ -2,13 +2,13 @@
 use Rattle.std.proofs.Common.{◌≡◌, ◌∙◌, ◌+◌, sym, arith}
 use Rattle.lists.specs.Counted.{sum_below}
 use Rattle.sums.specs.State.{table_map}
-use Rattle.kernel_sums.proofs.People.{reach_people, people_run, people_total, people_north, people_all}
+use Rattle.kernel_sums.proofs.People.{reach_people, people_run, people_total}
 use Rattle.kernel_sums.proofs.band.circle_population.Goals as goal
 use Rattle.kernel_sums.proofs.band.circle_population.Goals.{After-band_span-population}
 
 module _ (c : After-band_span-population) where
   more : c.loop-row.population + c.band_span-population.result
-      ≡ sum_below c.from-next.result (reach_people (table_map c.args.grid c.args.sums.now) c.args.col c.args.reach.now)
+      ≡ sum_below c.from-next.result (reach_people (table_map c.args.table.grid c.args.table.sums.now) c.args.col c.args.kernel.now.reach)
   more =
       let l = c.loop-row in
       let p = c.requires in
@@ -17,23 +17,18 @@ module _ (c : After-band_span-population) where
       let within = p.runs.within l.row l.invariant.from t in
       let touched = p.band.touched l.row l.invariant.from t in
       let run =
-      people_run (table_map c.args.grid c.args.sums.now) c.args.col c.args.reach.now l.row c.from-next.result c.from-n.result
+      people_run (table_map c.args.table.grid c.args.table.sums.now) c.args.col c.args.kernel.now.reach l.row c.from-next.result c.from-n.result
       (omega (arith, onward)) (omega (arith, within, p.band.on)) (omega (arith, touched))
       (λ i h u. p.runs.alike l.row l.invariant.from t i h (omega arith) ∙ sym c.from-n.ensures) in
       omega (arith, l.invariant.summed, c.band_span-population.ensures, run)
-
-pub loop-row-init : goal.loop-row-init
-loop-row-init c =
-    let b = c.requires.band in
-    record { from = omega arith; to = omega (arith, b.north_on, b.end_on); summed = sym (people_north _ c.args.col _ b) }
 
 pub overflow_add-population : goal.overflow_add-population
 overflow_add-population c =
     let l = c.loop-row in
     let p = c.requires in
     let within = p.runs.within l.row l.invariant.from c.loop-row-test.true in
-    let m = table_map c.args.grid c.args.sums.now in
-    omega (arith, more c, people_total m c.args.col c.args.reach.now c.from-next.result (omega (arith, within, p.band.on)), p.table.exact)
+    let m = table_map c.args.table.grid c.args.table.sums.now in
+    omega (arith, more c, people_total m c.args.col c.args.kernel.now.reach c.from-next.result (omega (arith, within, p.band.on)), c.args.table.summed.exact)
 
 pub loop-row-preserved : goal.loop-row-preserved
 loop-row-preserved c =
@@ -41,8 +36,3 @@ loop-row-preserved c =
     let onward = c.requires.runs.onward l.row l.invariant.from c.loop-row-test.true in
     let within = c.requires.runs.within l.row l.invariant.from c.loop-row-test.true in
     record { from = omega (arith, onward); to = omega (arith, within); summed = more c }
-
-pub returns : goal.returns
-returns c =
-    let end : c.loop-row.row ≡ c.args.end = omega (arith, c.loop-row.invariant.to) in
-    rw end at c.loop-row.invariant.summed ∙ people_all _ c.args.col _ c.requires.band

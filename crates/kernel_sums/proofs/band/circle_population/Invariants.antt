@@ -8,9 +8,9 @@ use Rattle.kernel_sums.proofs.band.circle_population.Given as goal
 abbrev pub invariant-loop-row : goal.invariant-loop-row
 invariant-loop-row l = record {
   from : l.initial.row ≤ l.row;
-  to : l.row ≤ l.end;
-  summed : l.population ≡ sum_below l.row (reach_people (table_map l.grid l.sums) l.col l.reach);
+  to : l.row ≤ l.kernel.end;
+  summed : l.population ≡ sum_below l.row (reach_people (table_map l.table.grid l.table.sums.now) l.col l.kernel.reach);
 }
 
 abbrev pub decreases-loop-row : goal.decreases-loop-row
-decreases-loop-row l = l.end - l.row
+decreases-loop-row l = l.kernel.end - l.row

@@ -10,6 +10,6 @@ pub returns : goal.returns
 returns c =
     let a = c.args in
     let n = c.closing-closing.result in
-    let rows = YieldsList-from_slice {s = c.iter.result} (take a.grid.height a.kernel.reach) (grind (arith, c.iter.ensures.rest)) in
-    covers_tested a.grid c.requires a.kernel n c.closing-closing.ensures (omega (arith, (grid_sizes a.grid c.requires).rows)) _
+    let rows = YieldsList-from_slice {s = c.iter.result} (take a.grid.height a.kernel.now.reach) (grind (arith, c.iter.ensures.rest)) in
+    covers_tested a.grid c.requires a.kernel.now n c.closing-closing.ensures (omega (arith, (grid_sizes a.grid c.requires).rows)) _
     (cases_from_all _ _ _ (λ x. n < x) (λ x. x ≤ n) c.all.ensures.ran rows (λ x q k. search (rules, tests)) (λ x q k. search (rules, tests)))

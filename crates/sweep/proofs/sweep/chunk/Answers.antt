@@ -14,7 +14,7 @@ use Rattle.kernel.specs.declared.Kernel.{Kernel}
 use Rattle.kernel.specs.Kernel.{kernel_population}
 use Rattle.kernel.specs.State.{KernelAt}
 use Rattle.kernel.specs.Requires.{CanSum}
-use Rattle.kernel.proofs.Placing.{rows_of, kernel_own, kernel_kept}
+use Rattle.kernel.proofs.Placing.{kernel_own, kernel_kept}
 use Rattle.circle_cells.proofs.Populations.{same_population}
 use Rattle.lists.proofs.Bools.{of_true}
 use Rattle.blocks.specs.declared.Block.{Block}
@@ -71,10 +71,10 @@ module _ (h : After-odd_columns) where
 
   -- a kernel of the probe's row: it can be summed around the probe, to the people of the probe's circle
   module _ (km : Float) (k : Kernel) (is : KernelAt h.args.grid h.args.angles.now (probe block_of).row km k) where
-    can_sum : CanSum h.args.grid h.args.sums.now (rows_of k) h.probe-p.result.col
+    can_sum : CanSum h.args.grid k h.probe-p.result.col
     can_sum = probe_placed _ _ _ _ h.requires.ready block_of rectangle h.probe-p.result h.probe-p.ensures km k is
 
-    people : kernel_population (table_map h.args.grid h.args.sums.now) (rows_of k) h.probe-p.result.col ≡ population the_map km (probe block_of)
+    people : kernel_population (table_map h.args.grid h.args.sums.now) k h.probe-p.result.col ≡ population the_map km (probe block_of)
     people = probe_people _ _ _ _ h.requires.ready block_of rectangle h.probe-p.result h.probe-p.ensures km k is
 
   -- ---- the wide kernels, either of which is the block's own once it is built or kept
