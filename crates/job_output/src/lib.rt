@@ -8,6 +8,7 @@ ghost use Rattle.job_rules.specs.Job.{job, most_bytes, program};
 ghost use Rattle.job_output.specs.Output.{output_of, output};
 ghost use Rattle.job_output.specs.State.{added};
 
+use grid::Refusal;
 use job_lines::Line;
 
 // The most bytes that the program reads.
@@ -45,6 +46,7 @@ fn add_line(line: Line, out: &mut [u8], place: usize) -> usize
 }
 
 // At most a step for each byte, and one more: a command takes a byte at least.
+#[tactic(auto, using(crate::proofs::Running::under_none, crate::proofs::Running::under_more))]
 fn run_steps(bytes: &[u8], out: &mut [u8]) -> usize
     requires { length bytes.now ≤ most_bytes }
     ensures { output_of result out.new ≡ output (job fresh_ledger bytes.now) out.old }
@@ -65,11 +67,12 @@ fn run_steps(bytes: &[u8], out: &mut [u8]) -> usize
 }
 
 // What the program prints for the bytes: the number of its bytes, and as many of them in the buffer as fit.
+#[tactic(auto, using(crate::proofs::Running::too_long, crate::proofs::Running::job_run))]
 pub fn run(bytes: &[u8], out: &mut [u8]) -> usize
     ensures { output_of result out.new ≡ output (program fresh_ledger bytes.now) out.old }
 {
     if MOST_BYTES < bytes.len() {
-        return add_line(job_lines::refused_line(13), out, 0);
+        return add_line(job_lines::refused_line(Refusal::Bytes), out, 0);
     }
     run_steps(bytes, out)
 }

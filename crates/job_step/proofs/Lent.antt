@@ -1,14 +1,14 @@
 -- What the two calls are lent beside the map, and what their answers make of the state.
-use Prim.Native.Nat.{ℕ, zero, suc}
+use Prim.Native.Nat.{ℕ}
 use mathlib.Core.Path.{◌≡◌, refl, sym, ◌∙◌, ap}
 use lib.Ieee.{Float}
 use Rattle.grid.specs.Map.{Map}
 use Rattle.spacing.specs.declared.Spacing.{Spacing}
-use Rattle.spacing.specs.declared.Spacing.TheVariants.{Cells}
 use Rattle.search_rules.specs.declared.MostPopulous.{MostPopulous}
-use Rattle.std.specs.Prelude.{Result, Ok, Err}
+use Rattle.std.specs.Prelude.{Ok, Err}
 use Rattle.grid.specs.declared.refusal.Refusal.{Refusal}
 use Rattle.grid.specs.Refusal.{number, answer_of}
+use Rattle.grid.specs.Answer.{Answer, answered, refused}
 use Rattle.most_populous.specs.Call.{Buffers, SearchOutcome, search_call}
 use Rattle.ledger.specs.declared.Ledger.{Ledger}
 use Rattle.probes.specs.declared.Smallest.{Smallest}
@@ -26,21 +26,19 @@ use Rattle.job_rules.specs.State.{command_state, refused_in, gone_on, later_in}
 use Rattle.job_rules.proofs.Commands.{refused_by, gone_on_lem}
 use Rattle.job_step.specs.State.{IsLeast}
 
-pub spacing_cells : (n : ℕ) → (n ≡ 0 → ⊥) → Cells n ≡ job_spacing n
-unfolding job_spacing
-spacing_cells zero h = absurd (h refl)
-spacing_cells (suc n) h = refl
-
 -- ---- M
 
-module _ (s : JobState) (spacing km : ℕ) {r : Result MostPopulous Refusal} (is : answer_of r ≡ (search_call (job_map s) (job_spacing spacing) km job_buffers).answer) where
-  pub most_found : {f : MostPopulous} {line : Line} → r ≡ Ok f → line ≡ line_of (most_line f) → gone_on s line ≡ later_in s (Most spacing km)
-  unfolding in_world world_of most_done command_state
-  most_found {f} e q = gone_on_lem s (Most spacing km) (world_of s) (most_line f) (rw (sym is, e)) refl q
+module _ (s : JobState) (spacing km : ℕ) where
+  abbrev answer : Answer MostPopulous
+  answer = (search_call (job_map s) (job_spacing spacing) km job_buffers).answer
 
-  pub most_refused : {e : Refusal} → r ≡ Err e → refused_in s (number e) ≡ later_in s (Most spacing km)
+  pub most_found : {f : MostPopulous} {line : Line} → answered f ≡ answer → line ≡ line_of (most_line f) → gone_on s line ≡ later_in s (Most spacing km)
+  unfolding in_world world_of most_done command_state
+  most_found e q = gone_on_lem s (Most spacing km) (ap (most_done (world_of s)) e) refl q
+
+  pub most_refused : {n : ℕ} → refused n ≡ answer → refused_in s n ≡ later_in s (Most spacing km)
   unfolding in_world world_of most_done
-  most_refused {e} h = refused_by s (Most spacing km) (number e) (rw (sym is, h))
+  most_refused e = refused_by s (Most spacing km) (ap (most_done (world_of s)) e)
 
 pub search_lent : (m : Map) (p : Spacing) (km : ℕ) (o : SearchOutcome) (n : Map) (q : Spacing) → o ≡ search_call n q km job_buffers → n ≡ m → q ≡ p
     → o.answer ≡ (search_call m p km job_buffers).answer
@@ -54,11 +52,11 @@ module _ (s : JobState) (spacing : ℕ) (share : Float) {r : SmallestResult}
       → gone_on t line ≡ later_in s (Least spacing share)
   unfolding in_world world_of least_done command_state
   least_found {a} e p q =
-      gone_on_lem s (Least spacing share) (world (job_map s) r.ledger) (least_line a) (rw (sym is.answer, e, is.ledger)) (p ∙ ap (ledger_state s) is.ledger) q
+      gone_on_lem s (Least spacing share) {w = world (job_map s) r.ledger} {printed = least_line a} (rw (sym is.answer, e, is.ledger)) (p ∙ ap (ledger_state s) is.ledger) q
 
   pub least_refused : {e : Refusal} → r.answer ≡ Err e → refused_in s (number e) ≡ later_in s (Least spacing share)
   unfolding in_world world_of least_done
-  least_refused {e} h = refused_by s (Least spacing share) (number e) (rw (sym is.answer, h))
+  least_refused {e} h = refused_by s (Least spacing share) (rw (sym is.answer, h))
 
 pub smallest_lent : (m : Map) (p : Spacing) (share : Float) (l : Ledger) (r : SmallestResult) (lent : Buffers) (n : Map) (q : Spacing)
     → ◌≡◌ {A = SmallestOutcome} (record { answer = answer_of r.answer; ledger = r.ledger; lent = lent }) (smallest_call n q share l job_buffers)

@@ -1,10 +1,19 @@
--- What R's call gives, as the code has it.
-use Rattle.std.specs.Prelude.{◌≡◌}
+-- What R's call and a command give, as the code has them.
+use Rattle.std.specs.Prelude.{◌≡◌, Result, Ok, Err}
+use Rattle.grid.specs.declared.refusal.Refusal.{Refusal}
+use Rattle.grid.specs.Refusal.{number, answer_of}
 use Rattle.smallest_rules.specs.declared.SmallestResult.{SmallestResult}
-use Rattle.grid.specs.Refusal.{answer_of}
 use Rattle.smallest_rules.specs.Call.{SmallestOutcome}
+use Rattle.job_world.specs.declared.JobState.{JobState}
+use Rattle.job_rules.specs.declared.Applied.{Applied}
+use Rattle.job_rules.specs.State.{refused_in}
 
 -- an R's answer and ledger as the code has them
 pub record IsLeast (o : SmallestOutcome) (r : SmallestResult) : Type 0 where
   pub answer : answer_of r.answer ≡ o.answer
   pub ledger : r.ledger ≡ o.ledger
+
+-- a command's result, and its refusal settled in the state
+abbrev pub settled_in : JobState → Result Applied Refusal → Applied
+settled_in s (Ok a) = a
+settled_in s (Err r) = refused_in s (number r)

