@@ -47,7 +47,7 @@ fn pruned(work: ChunkWork, block: Block, wide: f64) -> ChunkWork
 {
     let stats = SearchStats::of(0, 1, 1, 0, wide_built(work, block, wide));
     let more = Tally::of(stats, blocks::area(block), 0);
-    let tally = tally::plus(work.tally, more);
+    let tally = work.tally + more;
     let wide_row = blocks::probe(block).row;
     ChunkWork {
         tally,
@@ -69,7 +69,7 @@ fn evaluated(work: ChunkWork, block: Block, wide: f64, population: u64) -> Chunk
     let kernels = wide_built(work, block, wide) + exact_built(work, block);
     let stats = SearchStats::of(0, 1, 0, 1, kernels);
     let more = Tally::of(stats, 0, settled(block));
-    let tally = tally::plus(work.tally, more);
+    let tally = work.tally + more;
     ChunkWork {
         held,
         tally,

@@ -38,7 +38,7 @@ impl Bracket {
         }
     }
 
-    // The next kilometre to probe.
+    // The next kilometre to probe. The middle is written out, since `blocks::middle` is of a crate that the climb knows nothing of.
     pub fn radius(self) -> RadiusKm
         ensures { result.0 ≡ next_radius self }
     {

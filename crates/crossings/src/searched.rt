@@ -6,7 +6,7 @@ ghost use Rattle.crossings.specs.Calls.{search_words};
 use search_rules::MostPopulous;
 use spacing::Spacing;
 
-// The spacing of the flag and the number that cross in its place.
+// The spacing of the flag and the number that cross in its place: no enum crosses to C.
 pub fn spacing_from(automatic: bool, cells: u32) -> Spacing
     ensures { result ≡ spacing_from automatic cells }
 {

@@ -45,12 +45,6 @@ bits_signed f b = fields_signed f (leb (top f) b) (b % top f / hid f) (b % hid f
 value_signed : (x : Float) → T (fits binary64 x) → Signed (leb 0x8000000000000000 (to_bits binary64 x)) x
 value_signed x F = subst (λ (y : Float). Signed (leb 0x8000000000000000 (to_bits binary64 x)) y) (of_bits-to_bits binary64 x F) (bits_signed binary64 (to_bits binary64 x))
 
-pub no_nan_of : (x : Float) → ne x x ≡ false → T (not (is_nan x))
-unfolding ne is_nan
-no_nan_of nan h = absurd (true≢false h)
-no_nan_of (inf s) h = tt
-no_nan_of (fin s m e) h = tt
-
 -- ---- zero
 
 not_one : (k : ℕ) → 2 ^ suc k ≡ 1 → ⊥

@@ -60,11 +60,6 @@ round_neg f a b =
 abbrev pub +0 : Float
 +0 = fin false 0 (pos 0)
 
--- the literal 0.0
-pub zero_bits : of_bits binary64 0 ≡ +0
-unfolding of_bits
-zero_bits = refl
-
 round_zero_one : (f : Format) → round f false 0 1 ≡ +0
 unfolding round
 round_zero_one binary32 = refl

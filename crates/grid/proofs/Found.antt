@@ -21,14 +21,6 @@ module _ (g : Grid) (i : ℕ) where
   unfolding row_found
   row_off e = cond_none _ _ e
 
-  pub col_on : (c : Col) → col_found g i ≡ Some c → (ltb i g.width ≡ true) × (i ≡ c.0)
-  unfolding col_found
-  col_on c e = let p = cond_some _ _ _ e in (p.0, cc)
-
-  pub col_off : col_found g i ≡ None → ltb i g.width ≡ false
-  unfolding col_found
-  col_off e = cond_none _ _ e
-
 module _ (g : Grid) (km : ℕ) where
   pub radius_within : (r : RadiusKm) → radius_found g km ≡ Some r → (leb km (ceiling g) ≡ true) × (km ≡ r.0)
   unfolding radius_found

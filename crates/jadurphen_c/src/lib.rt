@@ -1,4 +1,5 @@
-// The C interface: each call of `jadurphen` under the same name and with the same clauses.
+// The C interface: each call of `jadurphen` under the same name and with the same clauses. A second crate, since one is a library or a
+// static library and not both.
 // A slice crosses as two arguments, its pointer and its length; `include/jadurphen.h` declares the functions.
 #![tactic(auto)]
 

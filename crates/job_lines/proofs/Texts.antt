@@ -1,18 +1,19 @@
 -- Lines that grow: one byte more, bytes behind bytes, fields behind fields.
-use Prim.Native.Nat.{ℕ, suc, ◌+◌, ◌-◌, ◌*◌, ◌≤◌, ◌<◌}
+use Prim.Native.Nat.{ℕ, suc, ◌+◌, ◌-◌, ◌*◌, ◌^◌, ◌≤◌, ◌<◌}
 use mathlib.Core.Path.{◌≡◌, refl, sym, ◌∙◌, ap}
 use mathlib.Core.List.{List, [], ◌∷◌, ◌++◌, append_assoc, append-nil}
 use native.Mathlib.Omega.{arith}
 use native.Mathlib.Numerals.{add-one}
-use lib.ListN.{length, take, drop, get_or, set, replicate, length-drop, length-append, length-replicate, length-set}
+use lib.ListN.{length, take, drop, get_or, set, replicate, length-append, length-set}
 use Rattle.std.proofs.lemmas.Grind.{take-set_at}
 use Rattle.std.proofs.Common.{add-zero}
 use Rattle.std.proofs.lemmas.List.{drop-set-lt, take-append-drop}
-use lib.Seq.{drop-drop, take-suc, take_all, take-append_seam, set-append_seam, append_snoc, drop_at, length-take-le}
-use Rattle.job_lines.specs.declared.Digits.{Digits}
+use lib.Seq.{drop-drop, take-suc, take-append_seam, set-append_seam, append_snoc, length-take-le}
 use Rattle.job_lines.specs.declared.Line.{Line}
-use Rattle.job_lines.specs.State.{line_room, text_of, line_of, with_byte, longer, digits_in}
-use Rattle.job_lines.specs.Line.{most_digits, longest_field, in_decimal, field, fields}
+use Rattle.job_lines.specs.State.{line_room, text_of, line_of, with_byte, longer}
+use Rattle.job_lines.specs.Line.{longest_field, in_decimal, field, fields}
+use Rattle.std.specs.Fmt.{decimal}
+use Rattle.job_lines.proofs.Decimals.{in_decimal_is}
 use Rattle.job_lines.proofs.Lengths.{length_fields}
 
 -- ---- bytes behind bytes
@@ -87,21 +88,10 @@ begun_len r word ns e = let n : r.len ≡ length (word ++ fields ns) = ap (λ (l
 
 -- ---- a space, and a number's digits
 
-module _ (d : Digits) (n : ℕ) (is : d ≡ digits_in (in_decimal n)) where
-  pub digits_from : d.from ≤ most_digits
-  unfolding digits_in
-  digits_from = let f : d.from ≡ most_digits - length (in_decimal n) = ap (λ (t : Digits). t.from) is in omega arith
-
-  digits_seen : drop d.from d.bytes ≡ in_decimal n
-  unfolding digits_in
-  digits_seen = rw is (drop_at (replicate (most_digits - length (in_decimal n)) 48) (in_decimal n) _ (length-replicate (most_digits - length (in_decimal n)) 48))
-
-  pub field_longer : (l a b : Line) → a ≡ longer l (32 ∷ []) → b ≡ longer a (take (length d.bytes - d.from) (drop d.from d.bytes)) → b ≡ longer l (field n)
-  unfolding field
-  field_longer l a b p q =
-      let all : take (length d.bytes - d.from) (drop d.from d.bytes) ≡ in_decimal n
-      = take_all (length d.bytes - d.from) (drop d.from d.bytes) (omega (arith, length-drop d.from d.bytes)) ∙ digits_seen in
-      q ∙ ap (longer a) all ∙ ap (λ (t : Line). longer t (in_decimal n)) p ∙ longer_then l (32 ∷ []) (in_decimal n)
+pub field_longer : (l a b : Line) (n : ℕ) → n < 2 ^ 64 → a ≡ longer l (32 ∷ []) → b ≡ longer a (decimal n) → b ≡ longer l (field n)
+unfolding field
+field_longer l a b n fits p q =
+    q ∙ ap (longer a) (sym (in_decimal_is n fits)) ∙ ap (λ (t : Line). longer t (in_decimal n)) p ∙ longer_then l (32 ∷ []) (in_decimal n)
 
 -- ---- fields so far, and one more
 

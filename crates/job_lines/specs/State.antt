@@ -1,8 +1,6 @@
 -- Lines as the code has them, whole and under way.
 use Rattle.std.specs.Prelude.{ℕ, ◌+◌, ◌-◌, List, [], ◌∷◌, ◌++◌, length, take, set, replicate}
-use Rattle.job_lines.specs.declared.Digits.{Digits}
 use Rattle.job_lines.specs.declared.Line.{Line}
-use Rattle.job_lines.specs.Line.{most_digits}
 
 -- the bytes of a line's array
 abbrev pub line_room : ℕ
@@ -24,7 +22,3 @@ with_byte l b = record { len = l.len + 1; bytes = set l.bytes l.len b }
 unfoldable pub longer : Line → List ℕ → Line
 longer l [] = l
 longer l (b ∷ bs) = longer (with_byte l b) bs
-
--- digits at the end of their array, "0" before them
-unfoldable pub digits_in : List ℕ → Digits
-digits_in ds = record { from = most_digits - length ds; bytes = replicate (most_digits - length ds) 48 ++ ds }

@@ -1,12 +1,12 @@
 // The lines that a job prints.
 #![tactic(auto)]
 
-mod decimal;
 mod text;
 
 pub use text::{blank, least_line, most_line, refused_line};
 
-// The first len bytes are the line, its end of line with it; a line of no bytes is none.
+// The first len bytes are the line, its end of line with it; a line of no bytes is none. An array with a length beside it, and no
+// Vec: no line is on the heap.
 #[derive(Clone, Copy)]
 pub struct Line {
     pub len: usize,
@@ -15,21 +15,9 @@ pub struct Line {
 
 // The longest line is a most line, a word of four letters and eleven fields; the array has room to spare.
 impl Line {
-    pub const LONGEST: usize = 4 + 11 * (1 + Digits::MOST) + 1;
+    pub const MOST_DIGITS: usize = 20;
+
+    pub const LONGEST: usize = 4 + 11 * (1 + Line::MOST_DIGITS) + 1;
 
     pub const ROOM: usize = 256;
-}
-
-// A number in decimal: the bytes from place from on.
-#[derive(Clone, Copy)]
-pub struct Digits {
-    pub from: usize,
-    pub bytes: [u8; Digits::MOST],
-}
-
-// As many digits as a 64-bit number has at most, and the place of the last.
-impl Digits {
-    pub const MOST: usize = 20;
-
-    pub const LAST: usize = Digits::MOST - 1;
 }

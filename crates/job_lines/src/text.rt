@@ -4,8 +4,9 @@ ghost use Rattle.grid.specs.Refusal.{number};
 ghost use Rattle.job_lines.specs.Line.{longest_field, field, fields, newline, short_fields, refused_line, most_line, least_line};
 ghost use Rattle.job_lines.specs.State.{line_room, line_of, longer};
 
-use crate::{Line, decimal};
+use crate::Line;
 use grid::Refusal;
+use itoa::Buffer;
 use probes::{Smallest, Witness};
 use search_rules::MostPopulous;
 
@@ -38,8 +39,7 @@ fn add_field(line: Line, n: u64) -> Line
     ensures { result ≡ longer line (field n) }
 {
     let spaced = append(line, b" ");
-    let d = decimal::digits_of(n);
-    append(spaced, &d.bytes[d.from..])
+    append(spaced, Buffer::new().format(n).as_bytes())
 }
 
 // A field for each number.

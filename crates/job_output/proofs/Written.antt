@@ -68,10 +68,6 @@ line_front line whole = go (ltb line.len line_room) refl
         let h : line_room ≤ line.len = ltb-false line.len line_room t in
         take_all (min line.len line_room) line.bytes (omega arith) ∙ sym (take_all line.len line.bytes (omega arith))
 
-pub line_within : (line : Line) → length (text_of line) ≤ length line.bytes
-unfolding text_of
-line_within line = omega (arith, length-take line.len line.bytes)
-
 module _ (place : ℕ) (text out₀ : List ℕ) where
   pub text_next : (out : List ℕ) (i : ℕ) → i < length text → out ≡ from place (take i text) out₀
       → set out (place + i) (get_or text i 0) ≡ from place (take (i + 1) text) out₀

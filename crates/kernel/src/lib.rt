@@ -11,7 +11,8 @@ use grid::Row;
 pub const ROWS: usize = grid::MOST_ROWS as usize;
 
 // The circles of a radius around the cells of a row: in each row from north up to end, how many columns from the centre's one on either
-// side are within, the centre's own included, and where the rows of the same reach that follow it end.
+// side are within, the centre's own included, and where the rows of the same reach that follow it end. Two arrays by row
+// and no pairs: the walks that fill reach are lent it whole, and know of no runs.
 #[derive(Clone, Copy)]
 pub struct Kernel {
     pub row: Row,

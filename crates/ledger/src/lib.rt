@@ -15,7 +15,7 @@ pub struct Entry {
     pub centre: Candidate,
 }
 
-// The first len places hold the entries; the others hold anything.
+// The first len places hold the entries; the others hold anything. An array with a length beside it, and no Vec: nothing is on the heap.
 #[derive(Clone, Copy)]
 pub struct Ledger {
     pub len: usize,

@@ -90,7 +90,7 @@ pub(crate) fn evaluated_more(stats: SmallestStats, search: SearchStats) -> Small
     SmallestStats {
         radii_evaluated: stats.radii_evaluated + 1,
         radii_reused: stats.radii_reused,
-        searched: tally::plus_stats(stats.searched, search),
+        searched: stats.searched + search,
     }
 }
 

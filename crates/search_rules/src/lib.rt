@@ -50,7 +50,7 @@ pub fn with_level(found: SearchResult, level: ChunkResult) -> SearchResult
 {
     SearchResult {
         held: level.held,
-        tally: tally::plus(found.tally, level.tally),
+        tally: found.tally + level.tally,
     }
 }
 

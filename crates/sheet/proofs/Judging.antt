@@ -2,14 +2,15 @@
 use Prim.Native.Nat.{ℕ, zero, suc, ◌+◌, ◌-◌, ◌*◌, ◌≤◌, ◌<◌}
 use mathlib.Core.Path.{◌≡◌, refl, sym, ap, subst, ◌∙◌}
 use mathlib.Core.Bool.{Bool, true, false, cond, ◌&&◌, and_assoc, and-true, true≢false}
-use mathlib.Core.List.{List, [], ◌∷◌}
+use mathlib.Core.List.{List, [], ◌∷◌, ◌++◌}
 use native.Mathlib.Omega.{arith}
 use native.Mathlib.Decide.{dec_lt}
 use native.Mathlib.Nat.{add-zero, zero-mul, suc-mul, add-mul}
 use native.Mathlib.Numerals.{add-one}
 use lib.Dec.{ltb, eqb}
-use lib.ListN.{length, take, drop, take-append-drop, length-drop}
-use lib.Seq.{get_or-drop, take-length, length-take-le}
+use lib.ListN.{length, take, drop, take-append-drop, length-append}
+use lib.Seq.{get_or-drop, drop-drop, drop_at, take-append_seam, take-length, length-take-le}
+use Rattle.std.proofs.lemmas.List.{length-drop}
 use lib.Arith.{digits_lt}
 use lib.Ieee.{Float, nan, inf, fin, le, eq}
 use borrow.Author.Tests.{lt-ltb, le-ltb, eqb-true, eq-eqb, ne_eqb}
@@ -158,7 +159,7 @@ module _ (g : Grid) (xs : List Float) where
       ≡ next_row (standing c r) (angle s c r m) (angle s c r 0) ((standing c r).well && row_well s c r)
   unfolding angle_at sheet_index
   run_on c r l i =
-      run_fed (standing c r) refl l (drop (row_place c r) xs) (angle s c r) (λ k. get_or-drop (row_place c r) xs k nan) (rw length-drop (omega arith))
+      run_fed (standing c r) refl l (drop (row_place c r) xs) (angle s c r) (λ k. get_or-drop (row_place c r) xs k nan) (rw (length-drop _ xs) (omega arith))
       ∙ ap (λ w. next_row (standing c r) (angle s c r m) (angle s c r 0) ((standing c r).well && all_below (m + 1) (asked w (angle s c r)))) (head_rule c r)
 
   -- the rows where the judge may stand: of the sheet, or the one past its last
@@ -214,7 +215,7 @@ module _ (g : Grid) (xs : List Float) where
   judged_part c r (suc k) hc hr l i =
       let at = row_place c r in
       ap (λ j. j.well) (more_fed at (suc k) (standing c r) (fed c r (record { centre = omega arith; on = λ p. (hc, hr) }) (omega arith)))
-      ∙ run_well (standing c r) refl hc (drop at xs) (angle s c r) (λ k. get_or-drop at xs k nan) k (omega arith) (rw length-drop (omega arith))
+      ∙ run_well (standing c r) refl hc (drop at xs) (angle s c r) (λ k. get_or-drop at xs k nan) k (omega arith) (rw (length-drop _ xs) (omega arith))
       ∙ ap (λ w. (standing c r).well && all_below (suc k) (asked w (angle s c r))) (head_rule c r)
 
   -- an angle out of range is refused at any place, and so is the sheet, whatever follows
@@ -255,7 +256,7 @@ module _ (g : Grid) (xs : List Float) where
     pub stands : Stands g xs j.centre j.row
     pub inside : at ≤ length xs
 
-  pub between_start : Between 0 (judge_start g)
+  between_start : Between 0 (judge_start g)
   unfolding judge_start fold
   between_start =
       record {
@@ -278,18 +279,28 @@ module _ {g : Grid} {xs : List Float} {at : ℕ} {j : SheetJudge} (B : Between g
   grid_here = ap (λ j. j.grid) here
 
   module _ (size : length xs ≡ angle_count g) where
-    -- past the last run the verdict is the sheet's
-    pub between_end : g.height ≤ j.centre → judged g xs ≡ j.well
-    unfolding judged
-    between_end l =
+    no_more : g.height ≤ j.centre → at ≡ length xs
+    no_more l =
         let c : j.centre ≡ g.height = omega (arith, B.stands.centre) in
         let r : j.row ≡ 0 = elim (dec_lt 0 j.row) [
           | yes p ↦ absurd (omega (arith, B.stands.on p))
           | no p ↦ omega arith
         ] in
-        let all : at ≡ length xs = B.place ∙ rw (r, c, add-zero (g.height * g.height)) (sym size) in
+        B.place ∙ rw (r, c, add-zero (g.height * g.height)) (sym size)
+
+    -- an angle is left, so a centre row
+    pub centre_left : at < length xs → j.centre < g.height
+    centre_left l = elim (dec_lt j.centre g.height) [
+      | yes p ↦ p
+      | no p ↦ absurd (omega (arith, no_more (omega arith)))
+    ]
+
+    -- past the last run the verdict is the sheet's
+    between_end : g.height ≤ j.centre → judged g xs ≡ j.well
+    unfolding judged
+    between_end l =
         ap (λ ys. (fold judge_feed (judge_start g) ys).well) (sym (take-length xs))
-        ∙ ap (λ n. (fed_to g xs n).well) (sym all)
+        ∙ ap (λ n. (fed_to g xs n).well) (sym (no_more l))
         ∙ ap (λ j. j.well) B.before
 
     module _ (l : j.centre < g.height) where
@@ -299,18 +310,18 @@ module _ {g : Grid} {xs : List Float} {at : ℕ} {j : SheetJudge} (B : Between g
         | no p ↦ omega arith
       ]
 
-      pub run_inside : at + (closing g + 1) ≤ length xs
+      run_inside : at + (closing g + 1) ≤ length xs
       run_inside =
           let in-sheet : row_place g xs j.centre j.row + closing g < length xs = rw size (digits_lt (digits_lt l row_on) (omega arith)) in
           omega (arith, in-sheet, B.place)
 
       -- the angles from here on begin with the judge's next run
-      pub between_run : NextRun j (take (closing g + 1) (drop at xs))
+      between_run : NextRun j (take (closing g + 1) (drop at xs))
       between_run =
           record {
             fresh = ap (λ j. j.offset) here;
             on = subst (λ (g : Grid). j.centre < g.height) (sym grid_here) l;
-            size = length-take-le (closing g + 1) (drop at xs) (rw length-drop (omega (arith, run_inside))) ∙ ap (λ g. closing g + 1) (sym grid_here);
+            size = length-take-le (closing g + 1) (drop at xs) (rw (length-drop _ xs) (omega (arith, run_inside))) ∙ ap (λ g. closing g + 1) (sym grid_here);
           }
 
       abbrev next : SheetJudge
@@ -332,7 +343,7 @@ module _ {g : Grid} {xs : List Float} {at : ℕ} {j : SheetJudge} (B : Between g
             inside = run_inside;
           }
 
-      pub between_next : Between g xs (at + (closing g + 1)) next
+      between_next : Between g xs (at + (closing g + 1)) next
       between_next = elim (dec_lt (suc j.row) g.height) [
         | yes p ↦
             next_at j.centre (suc j.row) (run_next ∙ next_south g xs j.centre j.row p)
@@ -344,6 +355,44 @@ module _ {g : Grid} {xs : List Float} {at : ℕ} {j : SheetJudge} (B : Between g
             (record { centre = l; on = λ q. absurd (omega arith) })
             (omega (arith, B.place, centre_place g xs j.centre j.row last))
       ]
+
+-- the same, with the angles that are left
+pub record Left (g : Grid) (xs left : List Float) (j : SheetJudge) : Type 0 where
+  pub at : ℕ
+  pub left_is : left ≡ drop at xs
+  pub fed_before : Between g xs at j
+
+pub left_start : (g : Grid) (xs : List Float) → Left g xs xs (judge_start g)
+left_start g xs = record { at = 0; left_is = refl; fed_before = between_start g xs }
+
+module _ {g : Grid} {xs left : List Float} {j : SheetJudge} (L : Left g xs left j) (size : length xs ≡ angle_count g) where
+  left_length : length left ≡ length xs - L.at
+  left_length = ap length L.left_is ∙ length-drop L.at xs
+
+  -- the angles that are left begin with the judge's next run
+  module _ (run rest : List Float) (cut : left ≡ run ++ rest) (whole_run : length run ≡ closing g + 1) where
+    on : j.centre < g.height
+    on = centre_left L.fed_before size (omega (arith, left_length, ap length cut, length-append run rest))
+
+    run_is : take (closing g + 1) (drop L.at xs) ≡ run
+    run_is = rw (← L.left_is, cut, ← whole_run) (take-append_seam run rest)
+
+    pub left_run : NextRun j run
+    left_run = rw run_is at (between_run L.fed_before size on)
+
+    pub left_next : (k : SheetJudge) → k ≡ fold judge_feed j run → Left g xs rest k
+    left_next k e =
+        record {
+          at = L.at + (closing g + 1);
+          left_is = sym (drop_at run rest (closing g + 1) whole_run) ∙ ap (drop (closing g + 1)) (sym cut ∙ L.left_is) ∙ drop-drop (closing g + 1) L.at xs;
+          fed_before = rw (run_is, ← e) at (between_next L.fed_before size on);
+        }
+
+  pub left_end : length left < closing g + 1 → judged g xs ≡ j.well
+  left_end l = elim (dec_lt j.centre g.height) [
+    | yes p ↦ absurd (omega (arith, left_length, run_inside L.fed_before size p))
+    | no p ↦ between_end L.fed_before size (omega arith)
+  ]
 
 -- ---- question 6
 

@@ -215,15 +215,12 @@ pub fn angles_in_order(grid: Grid, angles: &[f64]) -> bool
     requires { length angles.now ≡ angle_count grid }
     ensures { result ≡ judged grid angles.now }
 {
-    let run = grid::closing(grid) as usize + 1;
     let mut judge = SheetJudge::start(grid);
-    let mut at: usize = 0;
-    while judge.centre < grid.height {
-        judge = judge.feed_run(&angles[at..at + run]);
+    for run in angles.chunks_exact(grid::closing(grid) as usize + 1) {
+        judge = judge.feed_run(run);
         if !judge.verdict() {
             return false;
         }
-        at += run;
     }
     judge.verdict()
 }

@@ -5,7 +5,8 @@ mod side;
 
 pub use side::{initial_spacing, spacing_given, spacing_of};
 
-// The side of the first level's blocks: found for the radius, or so many cells.
+// The side of the first level's blocks: found for the radius, or so many cells. It has the shape of an Option, and its names say what a
+// None would not.
 #[derive(Clone, Copy)]
 pub enum Spacing {
     Automatic,

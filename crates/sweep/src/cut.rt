@@ -32,15 +32,9 @@ fn joined(a: ChunkResult, b: ChunkResult) -> ChunkResult
     requires { weight a.tally + weight b.tally ≤ 2 ^ 31 }
     ensures { result ≡ joined_results a b }
 {
-    let first = a.held;
-    let second = b.held;
-    let held = candidates::better_held(first, second);
-    let counted = a.tally;
-    let more = b.tally;
-    let tally = tally::plus(counted, more);
     ChunkResult {
-        held,
-        tally,
+        held: candidates::better_held(a.held, b.held),
+        tally: a.tally + b.tally,
         live: b.live,
     }
 }

@@ -4,6 +4,7 @@ ghost use Rattle.tally.specs.Counts.{stats, tally, plus_stats, plus};
 ghost use Rattle.tally.specs.State.{stats_weight, weight};
 
 use crate::{SearchStats, Tally};
+use std::ops::Add;
 
 impl SearchStats {
     // The counts of the original, in its order: the one place where they are made.
@@ -34,29 +35,39 @@ impl Tally {
 }
 
 // Each count of two searches added.
-#[tactic(auto, unfolding(crate::specs::Counts::plus_stats, crate::specs::State::stats_weight))]
-pub fn plus_stats(s: SearchStats, t: SearchStats) -> SearchStats
-    requires { stats_weight s + stats_weight t ≤ 2 ^ 31 }
-    ensures { result ≡ plus_stats s t }
-{
-    SearchStats::of(
-        s.levels + t.levels,
-        s.blocks_examined + t.blocks_examined,
-        s.blocks_pruned + t.blocks_pruned,
-        s.circles_evaluated + t.circles_evaluated,
-        s.kernels_built + t.kernels_built,
-    )
+impl Add for SearchStats {
+    type Output = SearchStats;
+
+    ghost can_add = { λ s t. stats_weight s + stats_weight t ≤ 2 ^ 31 };
+
+    ghost add_gives = { λ s t r. r ≡ plus_stats s t };
+
+    #[tactic(auto, unfolding(crate::specs::Counts::plus_stats, crate::specs::State::stats_weight))]
+    fn add(self, more: SearchStats) -> SearchStats {
+        SearchStats::of(
+            self.levels + more.levels,
+            self.blocks_examined + more.blocks_examined,
+            self.blocks_pruned + more.blocks_pruned,
+            self.circles_evaluated + more.circles_evaluated,
+            self.kernels_built + more.kernels_built,
+        )
+    }
 }
 
 // The same with the cells pruned and settled.
-#[tactic(auto, unfolding(crate::specs::Counts::plus, crate::specs::State::weight))]
-pub fn plus(s: Tally, t: Tally) -> Tally
-    requires { weight s + weight t ≤ 2 ^ 31 }
-    ensures { result ≡ plus s t }
-{
-    Tally::of(
-        plus_stats(s.stats, t.stats),
-        s.cells_pruned + t.cells_pruned,
-        s.cells_settled + t.cells_settled,
-    )
+impl Add for Tally {
+    type Output = Tally;
+
+    ghost can_add = { λ s t. weight s + weight t ≤ 2 ^ 31 };
+
+    ghost add_gives = { λ s t r. r ≡ plus s t };
+
+    #[tactic(auto, unfolding(crate::specs::Counts::plus, crate::specs::State::weight))]
+    fn add(self, more: Tally) -> Tally {
+        Tally::of(
+            self.stats + more.stats,
+            self.cells_pruned + more.cells_pruned,
+            self.cells_settled + more.cells_settled,
+        )
+    }
 }

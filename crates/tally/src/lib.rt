@@ -3,8 +3,6 @@
 
 mod add;
 
-pub use add::{plus, plus_stats};
-
 // The counts of the original.
 #[derive(Clone, Copy)]
 pub struct SearchStats {

@@ -5,7 +5,7 @@ ghost use Rattle.test_lines.specs.Lines.{fits, with_digit, took_digit, took, las
 use crate::numbers;
 
 // What is known between two bytes, and at the end: the letter, or none where a byte was not in its place; how many numbers
-// there are, and the last of them.
+// there are, and the last of them. The count is no length: a line holds no numbers but the last.
 #[derive(Clone, Copy)]
 pub struct Line {
     pub tag: Option<u8>,

@@ -1,4 +1,5 @@
-// A ledger as lent words: word 0 the number of entries, then kilometre, row, column and population of each place.
+// A ledger as lent words: word 0 the number of entries, then kilometre, row, column and population of each place. Words and no structs,
+// since the C interface lends a slice of 64-bit numbers.
 #![tactic(auto)]
 
 ghost use Rattle.std.specs.Prelude.{◌≡◌, true, ◌++◌, ◌<◌, ◌+◌, ◌^◌, ltb, length, take, drop};

@@ -19,19 +19,19 @@ few c =
 pub overflow_add-kernels : goal.overflow_add-kernels
 overflow_add-kernels c = omega (arith, few c)
 
-pub plus-tally-requires : goal.plus-tally-requires
-plus-tally-requires c =
+pub add-tally-requires : goal.add-tally-requires
+add-tally-requires c =
     let cells = c.settled in
     rw (c.of-more.ensures, c.of-stats.ensures)
     (plus_light c.args.work.tally _ c.requires.light
-    (added_light 1 0 1 _ 0 cells.result (omega arith) (omega arith) (omega arith) (few (goal.at.plus-tally-requires c).After-exact_built) (omega arith) (one_few cells.result _ cells.ensures)))
+    (added_light 1 0 1 _ 0 cells.result (omega arith) (omega arith) (omega arith) (few (goal.at.add-tally-requires c).After-exact_built) (omega arith) (one_few cells.result _ cells.ensures)))
 
 pub returns : goal.returns
 returns c =
     let a = c.args in
     let probe = c.probe-probe.ensures in
     evaluated_is a.work a.block a.wide a.population _ _ _ probe (c.better_held-held.ensures ∙ ap (λ (x : Candidate). better_held a.work.held (Some x)) c.at.ensures)
-    (c.plus-tally.ensures
+    (c.add-tally.ensures
     ∙ ap (plus a.work.tally)
     (c.of-more.ensures
     ∙ ap₂ (λ (s : SearchStats) (n : ℕ). tally s 0 n) (c.of-stats.ensures ∙ ap (stats 0 1 0 1) (ap₂ ◌+◌ c.wide_built.ensures c.exact_built.ensures))

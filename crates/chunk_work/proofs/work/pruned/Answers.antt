@@ -4,8 +4,8 @@ use Rattle.chunk_work.specs.State.{pruned_work}
 use Rattle.chunk_work.proofs.Added.{plus_light, added_light, wide_few}
 use Rattle.chunk_work.proofs.work.pruned.Goals as goal
 
-pub plus-tally-requires : goal.plus-tally-requires
-plus-tally-requires c =
+pub add-tally-requires : goal.add-tally-requires
+add-tally-requires c =
     let a = c.args in
     let built = c.wide_built in
     let area = c.area in
@@ -16,4 +16,4 @@ plus-tally-requires c =
 
 pub returns : goal.returns
 unfolding pruned_work
-returns c = rw (c.plus-tally.ensures, c.of-more.ensures, c.area.ensures, c.of-stats.ensures, c.wide_built.ensures, c.probe.ensures)
+returns c = rw (c.add-tally.ensures, c.of-more.ensures, c.area.ensures, c.of-stats.ensures, c.wide_built.ensures, c.probe.ensures)
