@@ -40,7 +40,9 @@ fn settle(
         grid, angles, cosines, sums, current, following, spacing, target, slack, total, ledger,
     );
     SmallestResult {
-        answer: Ok(run_end::conclude(grid, angles, target, slack, total, ran.end)),
+        answer: Ok(run_end::conclude(
+            grid, angles, target, slack, total, ran.end,
+        )),
         ledger: ran.ledger,
     }
 }
