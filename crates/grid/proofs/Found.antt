@@ -3,10 +3,9 @@ use Rattle.std.specs.Prelude.{Some, None, ℕ, ◌≡◌, Bool, true, false, con
 use Rattle.std.proofs.Common.{arith}
 use Rattle.std.proofs.lemmas.Option.{cond_some}
 use Rattle.grid.specs.declared.Row.{Row}
-use Rattle.grid.specs.declared.Col.{Col}
 use Rattle.grid.specs.declared.RadiusKm.{RadiusKm}
 use Rattle.grid.specs.declared.Grid.{Grid}
-use Rattle.grid.specs.Grid.{ceiling, row_found, col_found, radius_found}
+use Rattle.grid.specs.Grid.{ceiling, row_found, radius_found}
 
 -- nothing by a test: it said no
 cond_none : {A : Type 0} (b : Bool) (x : A) → cond b (Some x) None ≡ None → b ≡ false
