@@ -8,12 +8,7 @@ use grid::{Cell, Map, Refusal};
 use table::Table;
 
 // The population of the circle of a radius around a cell, or the first question answered no; a refusal writes nothing.
-pub fn circle(
-    map: &Map<'_>,
-    sums: &mut [u64],
-    km: u32,
-    centre: Cell,
-) -> Result<u64, Refusal>
+pub fn circle(map: &Map<'_>, sums: &mut [u64], km: u32, centre: Cell) -> Result<u64, Refusal>
     ensures { circle_gave result sums.new
         ≡ circle_call (map_lent map.now) sums.old km centre }
 {

@@ -9,7 +9,7 @@ use Rattle.grid.specs.Map.{Map}
 use Rattle.grid.specs.declared.Grid.{Grid}
 use Rattle.std.specs.Prelude.{Result, Ok, Err}
 use Rattle.grid.specs.declared.refusal.Refusal.{Refusal}
-use Rattle.grid.specs.Refusal.{number, answer_of}
+use Rattle.grid.specs.Refusal.{refusal_number, answer_of}
 use Rattle.grid.specs.Answer.{refused, decide, after, shown, first_no}
 use Rattle.grid.proofs.Answers.{decide_no, decided_yes, decided_no}
 use Rattle.spacing.specs.declared.Spacing.{Spacing}
@@ -37,7 +37,7 @@ module _ (m : Map) (before : List ℕ) (km : ℕ) (centre : Cell) (held : ℕ) (
   unfolding circle_crossing circle_crossed number_of written
   circle_answered n gave is = rw (← gave, is)
 
-  pub circle_refused : (n : ℕ) (e : Refusal) → CircleGave → r ≡ Err e → n ≡ number e → circle_returned n held sums ≡ circle_crossing m before km centre held
+  pub circle_refused : (n : ℕ) (e : Refusal) → CircleGave → r ≡ Err e → n ≡ refusal_number e → circle_returned n held sums ≡ circle_crossing m before km centre held
   unfolding circle_crossing circle_crossed number_of written
   circle_refused n e gave is told = rw (← gave, is, told)
 
@@ -55,15 +55,15 @@ module _ (m : Map) (spacing : Spacing) (km : ℕ) (lent : Buffers) (words : List
   unfolding search_crossing search_crossed number_of written decide shown
   search_found f w gave is e = rw (← chosen, ← gave, is, e)
 
-  said : (e : Refusal) → SearchGave → r ≡ Err e → decide (number e) (tt {0}) ≡ refused (number e)
+  said : (e : Refusal) → SearchGave → r ≡ Err e → decide (refusal_number e) (tt {0}) ≡ refused (refusal_number e)
   unfolding search_call
   said e gave is =
-      let n = number e in
+      let n = refusal_number e in
       let k = first_no (search_questions m side km lent) in
       let answer : answer_of r ≡ decide k (search m side km) = ap (λ (o : SearchOutcome). o.answer) gave in
       decide_no n n tt refl (decided_no n k (search m side km) (rw is at answer))
 
-  pub search_refused : (n : ℕ) (e : Refusal) → SearchGave → r ≡ Err e → n ≡ number e
+  pub search_refused : (n : ℕ) (e : Refusal) → SearchGave → r ≡ Err e → n ≡ refusal_number e
       → search_returned n words tolerance sums current following ≡ search_crossing m spacing km lent words tolerance
   unfolding search_crossing search_crossed number_of written shown
   search_refused n e gave is told = rw (told, said e gave is, ← chosen, ← gave, is)
@@ -85,6 +85,6 @@ module _ (g : Grid) (words : List ℕ) (km : ℕ) (centre c : Candidate) (made :
   unfolding put_crossing put_crossed number_of after
   put_done w u gave is e = rw (← made, ← read, ← gave, is, e)
 
-  pub put_refused : (n : ℕ) (e : Refusal) → PutGave → r ≡ Err e → n ≡ number e → put_returned n words ≡ put_crossing g words (entry km centre)
+  pub put_refused : (n : ℕ) (e : Refusal) → PutGave → r ≡ Err e → n ≡ refusal_number e → put_returned n words ≡ put_crossing g words (entry km centre)
   unfolding put_crossing put_crossed number_of after
   put_refused n e gave is told = rw (← made, ← read, ← gave, is, told)

@@ -12,7 +12,7 @@ use Rattle.lists.proofs.Bools.{byte_one}
 use Rattle.grid.specs.Map.{Map}
 use Rattle.std.specs.Prelude.{Result, Ok, Err}
 use Rattle.grid.specs.declared.refusal.Refusal.{Refusal}
-use Rattle.grid.specs.Refusal.{number, answer_of}
+use Rattle.grid.specs.Refusal.{refusal_number, answer_of}
 use Rattle.grid.specs.Answer.{refused, decide, after, shown, first_no}
 use Rattle.grid.proofs.Answers.{decide_no, decided_yes, decided_no}
 use Rattle.spacing.specs.declared.Spacing.{Spacing}
@@ -82,10 +82,10 @@ module _ (m : Map) (spacing : Spacing) (share : Float) (ledger : List ℕ) (lent
   unfolding smallest_crossing smallest_crossed number_of written decide shown after
   smallest_found words floats a put w fs gave is p e f = rw (← chosen, ← read, ← gave, is, p, e, f)
 
-  said : (e : Refusal) → SmallestGave → r ≡ Err e → decide (number e) (tt {0}) ≡ refused (number e)
-  said e gave is = decide_no (number e) (number e) tt refl (decided_no (number e) (first_no (smallest_questions m side share l lent)) (smallest m side share l).answer (rw is at (answered_by gave)))
+  said : (e : Refusal) → SmallestGave → r ≡ Err e → decide (refusal_number e) (tt {0}) ≡ refused (refusal_number e)
+  said e gave is = decide_no (refusal_number e) (refusal_number e) tt refl (decided_no (refusal_number e) (first_no (smallest_questions m side share l lent)) (smallest m side share l).answer (rw is at (answered_by gave)))
 
-  pub smallest_refused : (words : List ℕ) (floats : List Float) (n : ℕ) (e : Refusal) → SmallestGave → r ≡ Err e → n ≡ number e
+  pub smallest_refused : (words : List ℕ) (floats : List Float) (n : ℕ) (e : Refusal) → SmallestGave → r ≡ Err e → n ≡ refusal_number e
       → smallest_returned n ledger words floats sums current following ≡ smallest_crossing m spacing share ledger lent words floats
   unfolding smallest_crossing smallest_crossed number_of written shown after
   smallest_refused words floats n e gave is told = rw (told, said e gave is, ← chosen, ← read, ← gave, is)

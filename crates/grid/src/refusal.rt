@@ -1,8 +1,8 @@
 // Why a call is refused: the question that was answered no.
 ghost use Rattle.std.specs.Prelude.{◌≡◌};
-ghost use Rattle.grid.specs.Refusal.{number};
+ghost use Rattle.grid.specs.Refusal.{refusal_number};
 
-// In the order of the questions. Radius stands for a centre off the grid too: both are question 8. The last three are a job's.
+// In the order of the questions; Circle is of a radius or a centre, which are both question 8. The last three are a job's.
 #[derive(Clone, Copy, PartialEq, Eq)]
 pub enum Refusal {
     Sizes,
@@ -25,7 +25,7 @@ pub enum Refusal {
 impl Refusal {
     // Its number, which a studio is told.
     pub fn number(self) -> u32
-        ensures { result ≡ number self }
+        ensures { result ≡ refusal_number self }
     {
         match self {
             Refusal::Sizes => 1,

@@ -1,6 +1,6 @@
 // The lines that a job prints.
 ghost use Rattle.std.specs.Prelude.{◌≡◌, [], ◌++◌, ◌+◌, ◌*◌, ◌≤◌, ◌<◌, length};
-ghost use Rattle.grid.specs.Refusal.{number};
+ghost use Rattle.grid.specs.Refusal.{refusal_number};
 ghost use Rattle.job_lines.specs.Line.{longest_field, field, fields, newline, short_fields, refused_line, most_line, least_line};
 ghost use Rattle.job_lines.specs.State.{line_room, line_of, longer};
 
@@ -71,7 +71,7 @@ fn end_line(line: Line) -> Line
 
 // The line of a refusal: "refused" and its number.
 pub fn refused_line(refusal: Refusal) -> Line
-    ensures { result ≡ line_of (refused_line (number refusal)) }
+    ensures { result ≡ line_of (refused_line (refusal_number refusal)) }
 {
     end_line(begin_line(b"refused", &[refusal.number() as u64]))
 }

@@ -7,7 +7,7 @@ use Rattle.spacing.specs.declared.Spacing.{Spacing}
 use Rattle.search_rules.specs.declared.MostPopulous.{MostPopulous}
 use Rattle.std.specs.Prelude.{Result, Ok, Err}
 use Rattle.grid.specs.declared.refusal.Refusal.{Refusal}
-use Rattle.grid.specs.Refusal.{number, answer_of}
+use Rattle.grid.specs.Refusal.{refusal_number, answer_of}
 use Rattle.grid.specs.Answer.{Answer, answered, refused}
 use Rattle.most_populous.specs.Call.{Buffers, SearchOutcome, search_call}
 use Rattle.ledger.specs.declared.Ledger.{Ledger}
@@ -53,7 +53,7 @@ module _ (s : JobState) (spacing : ℕ) (share : Float) {r : Result Smallest Ref
   least_found {a} e p q =
       gone_on_lem s (Least spacing share) {w = world (job_map s) l} {printed = least_line a} (rw (sym is.answer, e, is.ledger)) (p ∙ ap (ledger_state s) is.ledger) q
 
-  pub least_refused : {e : Refusal} → r ≡ Err e → refused_in s (number e) ≡ later_in s (Least spacing share)
+  pub least_refused : {e : Refusal} → r ≡ Err e → refused_in s (refusal_number e) ≡ later_in s (Least spacing share)
   unfolding in_world world_of least_done
   least_refused {e} h = refused_by s (Least spacing share) (rw (sym is.answer, h))
 

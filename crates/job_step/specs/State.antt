@@ -1,7 +1,7 @@
 -- What R's call and a command give, as the code has them.
 use Rattle.std.specs.Prelude.{◌≡◌, Result, Ok, Err}
 use Rattle.grid.specs.declared.refusal.Refusal.{Refusal}
-use Rattle.grid.specs.Refusal.{number, answer_of}
+use Rattle.grid.specs.Refusal.{refusal_number, answer_of}
 use Rattle.ledger.specs.declared.Ledger.{Ledger}
 use Rattle.probes.specs.declared.Smallest.{Smallest}
 use Rattle.smallest_rules.specs.Call.{SmallestOutcome}
@@ -17,4 +17,4 @@ pub record IsLeast (o : SmallestOutcome) (r : Result Smallest Refusal) (l : Ledg
 -- a command's result, and its refusal settled in the state
 abbrev pub settled_in : JobState → Result Applied Refusal → Applied
 settled_in s (Ok a) = a
-settled_in s (Err r) = refused_in s (number r)
+settled_in s (Err r) = refused_in s (refusal_number r)

@@ -1,7 +1,7 @@
 // What each command does to the state. Of two faults of a command the lower number is told: 13 of its bytes, which are read
 // before anything is known of it, then 14 of its turn, then 15 of its indices, which only a map under way can judge.
 ghost use Rattle.std.specs.Prelude.{◌≡◌, []};
-ghost use Rattle.grid.specs.Refusal.{number};
+ghost use Rattle.grid.specs.Refusal.{refusal_number};
 ghost use Rattle.job_commands.specs.declared.Command.TheVariants.{SetGrid, SetCount, SetCosine, SetAngle, End};
 ghost use Rattle.job_lines.specs.State.{line_of};
 ghost use Rattle.job_rules.specs.State.{refused_in, gone_on, first_in, later_in};
@@ -16,7 +16,7 @@ use job_world::JobState;
 // sees a refused command change nothing.
 #[tactic(auto, unfolding(job_rules::specs::State::refused_in))]
 pub(crate) fn refuse(state: JobState, refusal: Refusal) -> Applied
-    ensures { result ≡ refused_in state (number refusal) }
+    ensures { result ≡ refused_in state (refusal_number refusal) }
 {
     let line = job_lines::refused_line(refusal);
     Applied {

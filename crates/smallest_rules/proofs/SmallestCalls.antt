@@ -8,7 +8,7 @@ use lib.Ieee.{Float}
 use lib.ListN.{length}
 use Rattle.grid.specs.Map.{Map}
 use Rattle.grid.specs.declared.refusal.Refusal.{Refusal}
-use Rattle.grid.specs.Refusal.{number}
+use Rattle.grid.specs.Refusal.{refusal_number}
 use Rattle.grid.specs.Answer.{first_no, refused, decide, after, shown}
 use Rattle.grid.proofs.Answers.{PassedCall, map_then, decide_yes, refused_alike}
 use Rattle.sums.specs.Sums.{filled_sums}
@@ -31,10 +31,10 @@ module _ (m : Map) (spacing : Spacing) (share : Float) (l : Ledger) (lent : Buff
 
   -- ---- what the call gives
 
-  pub smallest_refused : (r : Refusal) → refused (number r) ≡ decide (first_no (smallest_questions m spacing share l lent)) (tt {0})
+  pub smallest_refused : (r : Refusal) → refused (refusal_number r) ≡ decide (first_no (smallest_questions m spacing share l lent)) (tt {0})
       → smallest_gave (Err r) l lent.sums lent.current lent.following ≡ smallest_call m spacing share l lent
   unfolding smallest_call buffers_after after shown
-  smallest_refused r e = rw (refused_alike (number r) (first_no (smallest_questions m spacing share l lent)) tt (smallest m spacing share l).answer e)
+  smallest_refused r e = rw (refused_alike (refusal_number r) (first_no (smallest_questions m spacing share l lent)) tt (smallest m spacing share l).answer e)
 
   pub smallest_answered : (a : Smallest) (l' : Ledger) (sums current following : List ℕ) → first_no (smallest_questions m spacing share l lent) ≡ 0
       → IsSettled (smallest m spacing share l) a l' → sums ≡ filled_sums m lent.sums → length current ≡ length lent.current → length following ≡ length lent.following
