@@ -1,16 +1,16 @@
 // Questions 4 and 5: how many counts, angles and cosines, each on any input.
-ghost use Rattle.std.specs.Prelude.{◌≡◌, ◌*◌, eqb};
-ghost use Rattle.grid.specs.Map.{globe_lent, map_lent};
+ghost use Rattle.std.specs.Prelude.{◌≡◌, ◌*◌, [], eqb};
+ghost use Rattle.grid.specs.Map.{globe_lent, lent_map};
 ghost use Rattle.grid.specs.Questions.{counts_complete, sheet_complete};
 
-use grid::{Globe, Map};
+use grid::{Globe, Grid};
 
 // Question 4: a count for every cell.
 #[tactic(auto, unfolding(grid::specs::Questions::counts_complete))]
-pub fn counts_complete(map: &Map<'_>) -> bool
-    ensures { result ≡ counts_complete (map_lent map.now) }
+pub fn counts_complete(grid: Grid, counts: &[u32]) -> bool
+    ensures { result ≡ counts_complete (lent_map grid counts.now [] []) }
 {
-    map.counts.len() as u64 == grid::cells(map.globe.grid)
+    counts.len() as u64 == grid::cells(grid)
 }
 
 // Whether n is a × b, which may need more than 64 bits.

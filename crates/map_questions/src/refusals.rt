@@ -26,7 +26,7 @@ pub fn map_asked(map: &Map<'_>) -> Result<(), Refusal>
     ensures { answer_of result ≡ decide (first_no (map_questions (map_lent map.now))) tt }
 {
     grid_questions::grid_asked(map.globe.grid)?;
-    if !crate::counts_complete(map) {
+    if !crate::counts_complete(map.globe.grid, map.counts) {
         return Err(Refusal::Counts);
     }
     sheet_asked(&map.globe)
