@@ -7,7 +7,7 @@ use native.Mathlib.Numerals.{add-one}
 use Rattle.std.proofs.Common.{min, Bool, true, false}
 use borrow.Author.Tests.{ltb-true, ltb-false}
 use lib.Dec.{ltb}
-use lib.ListN.{length, take, drop, get_or, set, length-take, length-append}
+use lib.ListN.{length, take, drop, get_or, set, length-append}
 use lib.Seq.{length-take-le, take_all, take-suc, take-length}
 use Rattle.job_lines.specs.declared.Line.{Line}
 use Rattle.job_lines.specs.State.{line_room, text_of}
