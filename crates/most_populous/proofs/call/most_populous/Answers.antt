@@ -30,10 +30,10 @@ module _ (r : In_ok-radius) where
 pub fill_sums-requires : goal.fill_sums-requires
 fill_sums-requires c = let p = passed (goal.at.fill_sums-requires c).In_ok-radius in to_fill _ _ p.map (p.yes 7).0
 
-pub SummedMap-ready : goal.SummedMap-ready
-SummedMap-ready c =
-    let p = passed (goal.at.SummedMap-ready c).In_ok-radius in
-    to_lend _ _ p.map (p.yes 7).0 _ c.fill_sums.ensures.filled c.fill_sums.ensures.small
+pub invariant_of-summed : goal.invariant_of-summed
+invariant_of-summed c =
+    let p = passed (goal.at.invariant_of-summed c).In_ok-radius in
+    record { ready = to_lend _ _ p.map (p.yes 7).0 _ c.fill_sums.ensures.filled c.fill_sums.ensures.small }
 
 pub search_at-requires : goal.search_at-requires
 search_at-requires c = let p = passed (goal.at.search_at-requires c).In_ok-radius in to_search _ _ p.map (p.yes 7).0

@@ -32,9 +32,9 @@ module _ (e : In_ok-smallest_asked) where
 pub fill_sums-requires : goal.fill_sums-requires
 fill_sums-requires c = to_fill _ _ _ _ _ (passed (goal.at.fill_sums-requires c).In_ok-smallest_asked)
 
-pub SummedMap-ready : goal.SummedMap-ready
-SummedMap-ready c =
-    to_lend _ _ _ _ _ (passed (goal.at.SummedMap-ready c).In_ok-smallest_asked) _ c.fill_sums.ensures.filled c.fill_sums.ensures.small
+pub invariant_of-summed : goal.invariant_of-summed
+invariant_of-summed c =
+    record { ready = to_lend _ _ _ _ _ (passed (goal.at.invariant_of-summed c).In_ok-smallest_asked) _ c.fill_sums.ensures.filled c.fill_sums.ensures.small }
 
 pub settle-requires : goal.settle-requires
 settle-requires c = to_settle _ _ _ _ _ (passed (goal.at.settle-requires c).In_ok-smallest_asked)
