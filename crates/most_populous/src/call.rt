@@ -66,7 +66,5 @@ pub fn most_populous(
     let globe = map.globe;
     sums_fill::fill_sums(globe.grid, map.counts, sums);
     let summed = SummedMap { globe, sums };
-    Ok(search::search_at(
-        &summed, current, following, radius, spacing,
-    ))
+    Ok(search::search_at(&summed, current, following, radius, spacing))
 }

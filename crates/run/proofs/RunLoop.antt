@@ -5,7 +5,6 @@ use mathlib.Core.List.{List}
 use mathlib.Core.Bool.{Bool, true, false, cond, true≢false}
 use native.Mathlib.Omega.{arith}
 use lib.Ieee.{Float}
-use lib.ListN.{length}
 use Rattle.std.proofs.Common.{Some}
 use Rattle.lists.proofs.Bools.{cases}
 use Rattle.floats.specs.Binary.{whole}

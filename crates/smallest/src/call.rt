@@ -86,7 +86,5 @@ pub fn smallest_radius(
     let globe = map.globe;
     sums_fill::fill_sums(globe.grid, map.counts, sums);
     let summed = SummedMap { globe, sums };
-    Ok(settle(
-        &summed, current, following, share, spacing, ledger,
-    ))
+    Ok(settle(&summed, current, following, share, spacing, ledger))
 }
