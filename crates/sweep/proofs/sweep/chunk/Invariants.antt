@@ -8,5 +8,5 @@ use Rattle.sweep.proofs.sweep.chunk.Given as goal
 
 abbrev pub invariant-loop-word : goal.invariant-loop-word
 invariant-loop-word l =
-    Sweeping l.map.globe.grid l.map.globe.angles.now l.map.globe.cosines.now l.map.sums.now l.current l.start l.end l.km l.initial.work.held l.initial.following l.live l.following l.work l.at (l.start + l.word-index)
-    × KernelAt l.map.globe.grid l.map.globe.angles.now l.exact.row l.km l.exact × Serves l.map.globe.grid l.map.globe.angles.now l.map.globe.cosines.now l.km l.one_shape l.one × Serves l.map.globe.grid l.map.globe.angles.now l.map.globe.cosines.now l.km l.two_shape l.two
+    Sweeping l.grid l.angles l.cosines l.map.sums.now l.current l.start l.end l.km l.initial.work.held l.initial.following l.live l.following l.work l.at (l.start + l.word-index)
+    × KernelAt l.grid l.angles l.exact.row l.km l.exact × Serves l.grid l.angles l.cosines l.km l.one_shape l.one × Serves l.grid l.angles l.cosines l.km l.two_shape l.two
