@@ -14,6 +14,7 @@ use Rattle.candidates.specs.declared.Candidate.{Candidate}
 use Rattle.candidates.specs.Candidate.{better_held}
 use Rattle.chunk_work.specs.declared.ChunkWork.{ChunkWork}
 use Rattle.levels.specs.declared.ChunkResult.{ChunkResult}
+use Rattle.levels.specs.declared.SummedMap as lent
 use Rattle.tally.specs.Counts.{stats, tally, plus}
 use Rattle.chunk_work.specs.Work.{Outcome}
 
@@ -22,6 +23,10 @@ use Rattle.chunk_work.specs.Work.{Outcome}
 -- the map whose counts are those of the sums
 abbrev pub summed_map : Grid → List Float → List Float → List ℕ → Map
 summed_map g angles cosines sums = globe_map (globe_of g angles cosines) sums
+
+-- and by the struct in which it is lent
+abbrev pub summed_lent : lent.SummedMap → Map
+summed_lent m = summed_map m.globe.grid m.globe.angles.now m.globe.cosines.now m.sums.now
 
 -- a kernel serves a shape: it is the wide kernel of every block of that shape
 abbrev pub Serves : Grid → List Float → List Float → Float → Block → Kernel → Type 0

@@ -20,7 +20,8 @@ use Rattle.spacing.specs.declared.Spacing.{Spacing}
 use Rattle.search_rules.specs.declared.MostPopulous.{MostPopulous}
 use Rattle.search_rules.specs.Search.{search}
 use Rattle.most_populous.specs.Call.{Buffers, buffers_fit, buffers_after, search_own, search_questions, search_call}
-use Rattle.search_rules.specs.Requires.{CanSearch}
+use Rattle.levels.specs.Requires.{Ready}
+use Rattle.search_rules.specs.Requires.{TwoBuffers}
 
 -- ---- the questions of the call
 
@@ -60,27 +61,28 @@ module _ (m : Map) (lent : Buffers) (passed : Passed m) (fit : buffers_fit m.glo
       fillable m lent.sums passed.grid.sizes passed.counts
       (and_left (sums_fit m.globe.grid lent.sums) (leb (cells m.globe.grid) (length lent.current)) both)
 
+  pub to_search : TwoBuffers m.globe.grid lent.current lent.following
+  to_search =
+      record {
+        sizes = passed.grid.sizes;
+        current_room =
+            leb-true (cells m.globe.grid) (length lent.current)
+            (and_right (sums_fit m.globe.grid lent.sums) (leb (cells m.globe.grid) (length lent.current)) both);
+        following_room = leb-true (cells m.globe.grid) (length lent.following) following_fits;
+      }
+
   -- once the sums are filled
   module _ (last : List ℕ) (filled : last ≡ filled_sums (counts_map m.globe.grid m.counts) lent.sums) where
     sums_filled : last ≡ filled_sums m lent.sums
     sums_filled = filled ∙ bare_filled m lent.sums
 
-    pub to_search : ((i : ℕ) → get_or m.counts i 0 < 2 ^ 32) → CanSearch m.globe.grid m.globe.angles m.globe.cosines last lent.current lent.following
-    to_search small =
+    pub to_lend : ((i : ℕ) → get_or m.counts i 0 < 2 ^ 32) → Ready m.globe.grid m.globe.angles m.globe.cosines last
+    to_lend small =
         record {
-          ready = record {
-            sizes = passed.grid.sizes;
-            complete = passed.sheet;
-            order = passed.order;
-            table = globe_summed m lent.sums last to_fill sums_filled small;
-          };
-          buffers = record {
-            sizes = passed.grid.sizes;
-            current_room =
-                leb-true (cells m.globe.grid) (length lent.current)
-                (and_right (sums_fit m.globe.grid lent.sums) (leb (cells m.globe.grid) (length lent.current)) both);
-            following_room = leb-true (cells m.globe.grid) (length lent.following) following_fits;
-          };
+          sizes = passed.grid.sizes;
+          complete = passed.sheet;
+          order = passed.order;
+          table = globe_summed m lent.sums last to_fill sums_filled small;
         }
 
     -- the map by its sums is the map, at the radius that the questions left

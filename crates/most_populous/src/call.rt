@@ -6,6 +6,7 @@ ghost use Rattle.grid.specs.Refusal.{answer_of};
 ghost use Rattle.most_populous.specs.Call.{buffers, buffers_fit, search_questions, search_call, search_gave};
 
 use grid::{Grid, Map, RadiusKm, Refusal};
+use levels::SummedMap;
 use search_rules::MostPopulous;
 use spacing::Spacing;
 
@@ -64,14 +65,6 @@ pub fn most_populous(
     let radius = search_asked(map, km, spacing, sums, current, following)?;
     let globe = map.globe;
     sums_fill::fill_sums(globe.grid, map.counts, sums);
-    Ok(search::search_at(
-        globe.grid,
-        globe.angles,
-        globe.cosines,
-        sums,
-        current,
-        following,
-        radius,
-        spacing,
-    ))
+    let summed = SummedMap { globe, sums };
+    Ok(search::search_at(&summed, current, following, radius, spacing))
 }

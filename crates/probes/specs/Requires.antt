@@ -1,13 +1,13 @@
--- What a probe, a run and its end ask: an accepted map with its sums filled, a ledger in order with room, and counts that are still small.
+-- What a probe, a run and its end ask: room in two buffers, a ledger in order with room, and counts that are still small.
 use Rattle.std.specs.Prelude.{ℕ, ◌+◌, ◌^◌, ◌≤◌, ◌<◌, true, List, ◌≡◌, Float}
 use Rattle.grid.specs.declared.Grid.{Grid}
+use Rattle.grid.specs.Map.{Map}
 use Rattle.sums.specs.Sums.{total}
 use Rattle.reach.specs.Requires.{Sheet}
 use Rattle.candidates.specs.declared.Candidate.{Candidate}
-use Rattle.levels.specs.State.{summed_map}
 use Rattle.tally.specs.State.{stats_weight}
 use Rattle.search_rules.specs.declared.MostPopulous.{MostPopulous}
-use Rattle.search_rules.specs.Requires.{CanSearch}
+use Rattle.search_rules.specs.Requires.{TwoBuffers}
 use Rattle.ledger.specs.declared.Ledger.{Ledger}
 use Rattle.ledger.specs.Ledger.{ledger_in_order, places_free}
 use Rattle.ledger.specs.Requires.{InBounds}
@@ -33,13 +33,13 @@ pub record CanEvaluate (s : RunState) (f : MostPopulous) : Type 0 where
 
 -- ---- a run
 
--- an accepted map with its sums filled, level buffers, its target and slack, and a ledger that questions 11 and 12 let pass
-pub record CanRun (g : Grid) (angles cosines : List Float) (sums current following : List ℕ) (t : Target) (slack : Float) (people : ℕ) (l : Ledger) : Type 0 where
-  pub search : CanSearch g angles cosines sums current following
-  pub target : t ≡ target_of t.share (total (summed_map g angles cosines sums))
-  pub total_is : people ≡ total (summed_map g angles cosines sums)
-  pub slack_is : slack ≡ predicate_slack_persons g t.total
-  pub ledger : ledger_in_order g l ≡ true
+-- level buffers, the target and slack of a map, and a ledger that questions 11 and 12 let pass
+pub record CanRun (m : Map) (current following : List ℕ) (t : Target) (slack : Float) (people : ℕ) (l : Ledger) : Type 0 where
+  pub buffers : TwoBuffers m.globe.grid current following
+  pub target : t ≡ target_of t.share (total m)
+  pub total_is : people ≡ total m
+  pub slack_is : slack ≡ predicate_slack_persons m.globe.grid t.total
+  pub ledger : ledger_in_order m.globe.grid l ≡ true
   pub room : places_free l most_radii ≡ true
 
 -- ---- the end

@@ -5,7 +5,6 @@ use mathlib.Core.List.{List}
 use mathlib.Core.Bool.{Bool, true, false, cond, true≢false}
 use native.Mathlib.Omega.{arith}
 use lib.Ieee.{Float}
-use lib.ListN.{length}
 use Rattle.std.proofs.Common.{Some}
 use Rattle.lists.proofs.Bools.{cases}
 use Rattle.floats.specs.Binary.{whole}
@@ -17,10 +16,10 @@ use Rattle.spacing.specs.declared.Spacing.{Spacing}
 use Rattle.candidates.specs.declared.Candidate.{Candidate}
 use Rattle.candidates.specs.Candidate.{north_west}
 use Rattle.tally.specs.Counts.{no_stats}
-use Rattle.levels.specs.State.{summed_map}
+use Rattle.levels.specs.declared.SummedMap.{SummedMap}
+use Rattle.levels.specs.State.{summed_lent}
 use Rattle.tally.specs.State.{stats_weight}
 use Rattle.search_rules.specs.declared.MostPopulous.{MostPopulous}
-use Rattle.search_rules.specs.Requires.{CanSearch}
 use Rattle.search_rules.specs.Search.{search}
 use Rattle.ledger.specs.declared.Entry.{Entry}
 use Rattle.ledger.specs.declared.Ledger.{Ledger}
@@ -168,31 +167,19 @@ module _ (m : Map) (spacing : Spacing) (persons slack : Float) (people : ℕ) (l
 
 -- ---- the loop's own terms
 
-module _ {g : Grid} {angles cosines : List Float} {sums current following : List ℕ} {t : Target} {slack : Float} {people : ℕ} {l : Ledger}
-    (can : CanRun g angles cosines sums current following t slack people l) (spacing : Spacing) where
+module _ (map : SummedMap) {current following : List ℕ} {t : Target} {slack : Float} {people : ℕ} {l : Ledger}
+    (can : CanRun (summed_lent map) current following t slack people l) (spacing : Spacing) where
   -- the run of the loop
   abbrev pub Looping : Ledger → RunState → Bracket → Type 0
-  Looping h s c = Running (summed_map g angles cosines sums) spacing t.persons slack people l h s c
+  Looping h s c = Running (summed_lent map) spacing t.persons slack people l h s c
 
   pub loop_starts : {s₀ : RunState} → s₀ ≡ run_begun people → {c₀ : Bracket} → c₀ ≡ bracket_start → Looping l s₀ c₀
   loop_starts b e =
-      rw (e, b) (running_start (summed_map g angles cosines sums) spacing t.persons slack people l can.ledger can.room)
+      rw (e, b) (running_start (summed_lent map) spacing t.persons slack people l can.ledger can.room)
 
   module _ {h : Ledger} {s : RunState} {c : Bracket} (i : Looping h s c) (o : bracket_closed c ≡ false) where
-    at : (next_radius c < ceiling g) × (probe_count s < most_radii)
-    at = running_open (summed_map g angles cosines sums) spacing t.persons slack people l h s c i o
-
-    pub loop_searches : {current' following' : List ℕ} → length current' ≡ length current → length following' ≡ length following → CanSearch g angles cosines sums current' following'
-    loop_searches {current'} {following'} n f =
-        record {
-          ready = can.search.ready;
-          buffers =
-              record {
-                sizes = can.search.ready.sizes;
-                current_room = omega (arith, can.search.buffers.current_room);
-                following_room = omega (arith, can.search.buffers.following_room);
-              };
-        }
+    at : (next_radius c < ceiling map.globe.grid) × (probe_count s < most_radii)
+    at = running_open (summed_lent map) spacing t.persons slack people l h s c i o
 
     pub loop_reuses : (km : ℕ) {x : Candidate} → get h km ≡ Some x → CanNote s x
     loop_reuses km e = can_reuse i.order at.1 km e
@@ -200,28 +187,28 @@ module _ {g : Grid} {angles cosines : List Float} {sums current following : List
     pub loop_puts : (x : Entry) → PutRoom h x
     loop_puts x = can_put i.order at.1 x
 
-    pub loop_evaluates : (km : ℕ) {f : MostPopulous} → f ≡ search (summed_map g angles cosines sums) spacing km → CanEvaluate s f
-    loop_evaluates km e = can_evaluate i.order at.1 (rw e (ready_sound g angles cosines sums can.search.ready spacing km))
+    pub loop_evaluates : (km : ℕ) {f : MostPopulous} → f ≡ search (summed_lent map) spacing km → CanEvaluate s f
+    loop_evaluates km e = can_evaluate i.order at.1 (rw e (ready_sound _ _ _ _ map.ready spacing km))
 
-    pub loop_fits : CanGoOn g c
-    loop_fits = record { within = omega (arith, at.0, last_below g) }
+    pub loop_fits : CanGoOn map.globe.grid c
+    loop_fits = record { within = omega (arith, at.0, last_below map.globe.grid) }
 
     pub loop_goes_on : {km : ℕ} {h' : Ledger} {s' : RunState} {c' : Bracket} → km ≡ next_radius c
-        → ProbedTo (summed_map g angles cosines sums) spacing t.persons slack h s km h' s' → c' ≡ bracket_next (last_radius g) c s'.reached
+        → ProbedTo (summed_lent map) spacing t.persons slack h s km h' s' → c' ≡ bracket_next (last_radius map.globe.grid) c s'.reached
         → Looping h' s' c' × (probe_count s' ≡ probe_count s + 1)
     loop_goes_on {h' = h'} {s' = s'} {c' = c'} e f n =
-        running_next (summed_map g angles cosines sums) spacing t.persons slack people l h s c i o (ready_sound g angles cosines sums can.search.ready spacing (next_radius c))
+        running_next (summed_lent map) spacing t.persons slack people l h s c i o (ready_sound _ _ _ _ map.ready spacing (next_radius c))
         h' s' c' (rw (← e) f) n
 
     pub loop_falls : (s' : RunState) → probe_count s' ≡ probe_count s + 1 → most_radii - probe_count s' < most_radii - probe_count s
     loop_falls s' e = omega (arith, at.1)
 
   pub loop_ends : {h : Ledger} {s : RunState} {c : Bracket} → Looping h s c → bracket_closed c ≡ true → {e : RunEnd} → e ≡ end_from c s
-      → ran_with e h ≡ ran (summed_map g angles cosines sums) spacing t.share l
+      → ran_with e h ≡ ran (summed_lent map) spacing t.share l
   unfolding target_persons end_from
   loop_ends {h} {s} {c} i o f =
-      let m = summed_map g angles cosines sums in
+      let m = summed_lent map in
       let persons : t.persons ≡ target_persons m t.share = ap (λ (x : Target). x.persons) can.target in
       let all : t.total ≡ whole (total m) = ap (λ (x : Target). x.total) can.target in
-      let width : slack ≡ predicate_slack_persons g (whole (total m)) = rw (← all) can.slack_is in
+      let width : slack ≡ predicate_slack_persons map.globe.grid (whole (total m)) = rw (← all) can.slack_is in
       rw f (running_end m spacing t.persons slack people l h s c i t.share persons width can.total_is o)

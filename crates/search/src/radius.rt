@@ -1,36 +1,32 @@
 // The search at a radius of an accepted map.
 ghost use Rattle.std.specs.Prelude.{◌≡◌};
 ghost use Rattle.search_rules.specs.Search.{search};
-ghost use Rattle.levels.specs.State.{summed_map};
-ghost use Rattle.search_rules.specs.Requires.{CanSearch};
+ghost use Rattle.levels.specs.State.{summed_lent};
+ghost use Rattle.search_rules.specs.Requires.{TwoBuffers};
 
 use crate::descend;
-use grid::{Grid, RadiusKm};
+use grid::RadiusKm;
+use levels::SummedMap;
 use search_rules::MostPopulous;
 use spacing::Spacing;
 
 // The search of a map whose questions are answered and whose sums are filled; the level buffers are left as they come.
 pub fn search_at(
-    grid: Grid,
-    angles: &[f64],
-    cosines: &[f64],
-    sums: &[u64],
+    map: &SummedMap<'_>,
     current: &mut [u64],
     following: &mut [u64],
     km: RadiusKm,
     spacing: Spacing,
 ) -> MostPopulous
-    requires { CanSearch grid angles.now cosines.now sums.now current.old following.old }
-    ensures { result ≡ search (summed_map grid angles.now cosines.now sums.now) spacing km.0 }
+    requires { TwoBuffers map.now.globe.grid current.old following.old }
+    ensures { result ≡ search (summed_lent map.now) spacing km.0 }
 {
     if km.0 == 0 {
         let none = search_rules::nothing();
         return search_rules::answer_of(none, km);
     }
     let radius = km.0 as f64;
-    let side = spacing::spacing_of(grid, radius, spacing);
-    let found = descend::searched(
-        grid, angles, cosines, sums, radius, side, current, following,
-    );
+    let side = spacing::spacing_of(map.globe.grid, radius, spacing);
+    let found = descend::searched(map, radius, side, current, following);
     search_rules::answer_of(found, km)
 }

@@ -3,41 +3,44 @@ ghost use Rattle.std.specs.Prelude.{◌≡◌};
 ghost use Rattle.grid.specs.Answer.{first_no, decide};
 ghost use Rattle.grid.specs.Refusal.{answer_of};
 ghost use Rattle.grid.specs.Map.{map_lent};
-ghost use Rattle.levels.specs.State.{summed_map};
+ghost use Rattle.levels.specs.State.{summed_lent};
 ghost use Rattle.most_populous.specs.Call.{buffers};
 ghost use Rattle.probes.specs.Smallest.{smallest};
 ghost use Rattle.smallest_rules.specs.Call.{smallest_questions, smallest_gave, smallest_call};
 ghost use Rattle.smallest.specs.Requires.{CanSettle};
 ghost use Rattle.smallest_rules.specs.State.{IsSettled};
 
-use grid::{Grid, Map, Refusal};
+use grid::{Globe, Map, Refusal};
 use ledger::Ledger;
+use levels::SummedMap;
 use probes::Smallest;
 use spacing::Spacing;
 use table::Table;
 
 // The smallest radius of a map whose questions are answered and whose sums are filled.
 fn settle(
-    grid: Grid,
-    angles: &[f64],
-    cosines: &[f64],
-    sums: &[u64],
+    map: &SummedMap<'_>,
     current: &mut [u64],
     following: &mut [u64],
     share: f64,
     spacing: Spacing,
     ledger: &mut Ledger,
 ) -> Smallest
-    requires { CanSettle grid angles.now cosines.now sums.now current.old following.old ledger.old }
+    requires { CanSettle map.now.globe.grid current.old following.old ledger.old }
     ensures { IsSettled
-        (smallest (summed_map grid angles.now cosines.now sums.now) spacing share ledger.old)
+        (smallest (summed_lent map.now) spacing share ledger.old)
         result ledger.new }
 {
-    let total = Table { grid, sums }.whole();
+    let Globe { grid, angles, .. } = map.globe;
+    let table = Table {
+        grid,
+        sums: map.sums,
+    };
+    let total = table.whole();
     let target = share::target_of(share, total);
     let slack = share::predicate_slack_persons(grid, target.total);
     let end = run::run(
-        grid, angles, cosines, sums, current, following, spacing, target, slack, total, ledger,
+        map, current, following, spacing, target, slack, total, ledger,
     );
     run_end::conclude(grid, angles, target, slack, total, end)
 }
@@ -82,15 +85,6 @@ pub fn smallest_radius(
     smallest_asked(map, share, spacing, ledger, sums, current, following)?;
     let globe = map.globe;
     sums_fill::fill_sums(globe.grid, map.counts, sums);
-    Ok(settle(
-        globe.grid,
-        globe.angles,
-        globe.cosines,
-        sums,
-        current,
-        following,
-        share,
-        spacing,
-        ledger,
-    ))
+    let summed = SummedMap { globe, sums };
+    Ok(settle(&summed, current, following, share, spacing, ledger))
 }

@@ -3,14 +3,13 @@ ghost use Rattle.std.specs.Prelude.{◌≡◌, ◌+◌, ◌≤◌, ◌^◌, leng
 ghost use Rattle.blocks.specs.State.{blocks_of};
 ghost use Rattle.levels.specs.Level.{level_in_order};
 ghost use Rattle.tally.specs.Counts.{stats, tally};
-ghost use Rattle.levels.specs.State.{summed_map, joined_results, Swept};
+ghost use Rattle.levels.specs.State.{summed_lent, joined_results, Swept};
 ghost use Rattle.tally.specs.State.{weight};
-ghost use Rattle.levels.specs.Requires.{Ready, CanSweep};
+ghost use Rattle.levels.specs.Requires.{CanSweep};
 
 use crate::sweep;
 use candidates::Candidate;
-use grid::Grid;
-use levels::ChunkResult;
+use levels::{ChunkResult, SummedMap};
 use tally::{SearchStats, Tally};
 
 // A level before its first chunk.
@@ -43,21 +42,17 @@ fn joined(a: ChunkResult, b: ChunkResult) -> ChunkResult
 // starts from what was held when the level began, never from what the chunk before it found: chunks side by side do not know of each
 // other, and a better circle from there would prune blocks that the original evaluates.
 pub fn level(
-    grid: Grid,
-    angles: &[f64],
-    cosines: &[f64],
-    sums: &[u64],
+    map: &SummedMap<'_>,
     current: &[u64],
     n: usize,
     km: f64,
     best: Option<Candidate>,
     following: &mut [u64],
 ) -> ChunkResult
-    requires ready { Ready grid angles.now cosines.now sums.now }
     requires n_in_bounds { n ≤ length current.now }
-    requires can_sweep { CanSweep grid (blocks_of n current.now) following.old 0 }
+    requires can_sweep { CanSweep map.now.globe.grid (blocks_of n current.now) following.old 0 }
     ensures { Swept
-        (level_in_order (summed_map grid angles.now cosines.now sums.now) km best (blocks_of n current.now))
+        (level_in_order (summed_lent map.now) km best (blocks_of n current.now))
         following.old 0 following.new result }
 {
     let size = chunk_work::chunk_size(n);
@@ -66,9 +61,7 @@ pub fn level(
     for start in (0..n).step_by(size.max(1)) {
         let end = chunk_work::chunk_end(start, size, n);
         let live = done.live;
-        let part = sweep::chunk(
-            grid, angles, cosines, sums, current, start, end, km, best, following, live,
-        );
+        let part = sweep::chunk(map, current, start, end, km, best, following, live);
         done = joined(done, part);
     }
     done

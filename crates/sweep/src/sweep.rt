@@ -5,15 +5,15 @@ ghost use Rattle.blocks.specs.Block.{split};
 ghost use Rattle.blocks.specs.State.{word_of, Written};
 ghost use Rattle.pieces.specs.Requires.{CanSplit};
 ghost use Rattle.levels.specs.Level.{chunk};
-ghost use Rattle.levels.specs.State.{summed_map, started_work, blocks_from, Swept};
-ghost use Rattle.levels.specs.Requires.{Ready, CanSweep, ChunkWords};
+ghost use Rattle.levels.specs.State.{summed_lent, started_work, blocks_from, Swept};
+ghost use Rattle.levels.specs.Requires.{CanSweep, ChunkWords};
 
 use blocks::Block;
 use candidates::Candidate;
 use chunk_work::ChunkWork;
-use grid::{Grid, Row};
+use grid::{Globe, Grid, Row};
 use kernel_sums::circle_population;
-use levels::ChunkResult;
+use levels::{ChunkResult, SummedMap};
 use table::Table;
 use tally::{SearchStats, Tally};
 
@@ -60,10 +60,7 @@ fn result_of(work: ChunkWork, live: usize) -> ChunkResult
 // exact one, and are built anew only where a block needs another: a wide one where the block has another shape, the exact one where its
 // probe stands on another row.
 pub(crate) fn chunk(
-    grid: Grid,
-    angles: &[f64],
-    cosines: &[f64],
-    sums: &[u64],
+    map: &SummedMap<'_>,
     current: &[u64],
     start: usize,
     end: usize,
@@ -72,14 +69,21 @@ pub(crate) fn chunk(
     following: &mut [u64],
     live: usize,
 ) -> ChunkResult
-    requires ready { Ready grid angles.now cosines.now sums.now }
     requires chunk_words { ChunkWords current.now start end }
-    requires can_sweep { CanSweep grid (blocks_from start end current.now) following.old live }
+    requires can_sweep { CanSweep map.now.globe.grid (blocks_from start end current.now) following.old live }
     ensures { Swept
-        (chunk (summed_map grid angles.now cosines.now sums.now) km best (blocks_from start end current.now))
+        (chunk (summed_lent map.now) km best (blocks_from start end current.now))
         following.old live following.new result }
 {
-    let table = Table { grid, sums };
+    let Globe {
+        grid,
+        angles,
+        cosines,
+    } = map.globe;
+    let table = Table {
+        grid,
+        sums: map.sums,
+    };
     let mut exact = kernel::build(grid, angles, Row(grid.height / 2), km);
     let mut one = exact;
     let mut one_shape = chunk_work::no_shape();

@@ -2,16 +2,16 @@
 use Prim.Native.Nat.{◌-◌}
 use mathlib.Core.Path.{◌≡◌}
 use lib.ListN.{length}
-use Rattle.levels.specs.State.{summed_map}
+use Rattle.levels.specs.State.{summed_lent}
 use Rattle.climb.specs.Climb.{most_radii}
 use Rattle.probes.specs.State.{probe_count}
 use Rattle.run.proofs.RunLoop.{Running}
 use Rattle.run.proofs.run.Given as goal
 
-abbrev pub invariant-loop-grid : goal.invariant-loop-grid
-invariant-loop-grid l =
-    Running (summed_map l.grid l.angles l.cosines l.sums) l.spacing l.persons l.slack l.total l.initial.ledger l.ledger l.state l.bracket
+abbrev pub invariant-loop-spacing : goal.invariant-loop-spacing
+invariant-loop-spacing l =
+    Running (summed_lent l.map) l.spacing l.persons l.slack l.total l.initial.ledger l.ledger l.state l.bracket
     × (length l.current ≡ length l.initial.current) × (length l.following ≡ length l.initial.following)
 
-abbrev pub decreases-loop-grid : goal.decreases-loop-grid
-decreases-loop-grid l = most_radii - probe_count l.state
+abbrev pub decreases-loop-spacing : goal.decreases-loop-spacing
+decreases-loop-spacing l = most_radii - probe_count l.state

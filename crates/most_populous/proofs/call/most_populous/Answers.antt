@@ -5,7 +5,7 @@ use Rattle.grid.specs.Answer.{first_no, shown}
 use Rattle.grid.proofs.Answers.{PassedCall, radius_left}
 use Rattle.sums_fill.proofs.Tables.{bare_filled}
 use Rattle.most_populous.specs.Call.{Buffers, buffers, search_own, search_questions}
-use Rattle.most_populous.proofs.SearchCalls.{search_passed, search_refused, search_answered, to_fill, to_search, searched_map}
+use Rattle.most_populous.proofs.SearchCalls.{search_passed, search_refused, search_answered, to_fill, to_search, to_lend, searched_map}
 use Rattle.most_populous.proofs.call.most_populous.Goals as goal
 use Rattle.most_populous.proofs.call.most_populous.Goals.{In_ok-radius}
 
@@ -30,10 +30,13 @@ module _ (r : In_ok-radius) where
 pub fill_sums-requires : goal.fill_sums-requires
 fill_sums-requires c = let p = passed (goal.at.fill_sums-requires c).In_ok-radius in to_fill _ _ p.map (p.yes 7).0
 
+pub invariant_of-summed : goal.invariant_of-summed
+invariant_of-summed c =
+    let p = passed (goal.at.invariant_of-summed c).In_ok-radius in
+    record { ready = to_lend _ _ p.map (p.yes 7).0 _ c.fill_sums.ensures.filled c.fill_sums.ensures.small }
+
 pub search_at-requires : goal.search_at-requires
-search_at-requires c =
-    let p = passed (goal.at.search_at-requires c).In_ok-radius in
-    to_search _ _ p.map (p.yes 7).0 _ c.fill_sums.ensures.filled c.fill_sums.ensures.small
+search_at-requires c = let p = passed (goal.at.search_at-requires c).In_ok-radius in to_search _ _ p.map (p.yes 7).0
 
 pub returns : goal.returns
 returns c =

@@ -8,28 +8,28 @@ loop-live-init c =
     let f = c.first_level-live in
     let p = c.requires in
     rw c.nothing-found.ensures
-    (descend_start _ _ _ _ _ _ _ _ p.ready (omega (arith, p.two_buffers.current_room, f.auto)) (omega (arith, p.two_buffers.following_room, f.auto)) _ f.ensures)
+    (descend_start _ _ _ _ _ _ _ _ c.args.map.now.ready (omega (arith, p.current_room, f.auto)) (omega (arith, p.following_room, f.auto)) _ f.ensures)
 
 pub level-level-requires : goal.level-level-requires
 level-level-requires c =
-    record { ready = c.requires.ready; n_in_bounds = descend_words _ _ _ _ _ _ _ _ c.requires.ready _ _ _ _ c.loop-live.invariant; can_sweep = descend_sweeps _ _ _ _ _ _ _ _ c.requires.ready _ _ _ _ c.loop-live.invariant }
+    record { n_in_bounds = descend_words _ _ _ _ _ _ _ _ c.args.map.now.ready _ _ _ _ c.loop-live.invariant; can_sweep = descend_sweeps _ _ _ _ _ _ _ _ c.args.map.now.ready _ _ _ _ c.loop-live.invariant }
 
 pub with_level-found-requires : goal.with_level-found-requires
 with_level-found-requires c =
-    descend_light _ _ _ _ _ _ _ _ c.requires.ready _ _ _ _ c.loop-live.invariant c.loop-live-test.true _ _ c.level-level.ensures
+    descend_light _ _ _ _ _ _ _ _ c.args.map.now.ready _ _ _ _ c.loop-live.invariant c.loop-live-test.true _ _ c.level-level.ensures
 
 pub insert_from-requires : goal.insert_from-requires
 insert_from-requires c =
-    descend_takes _ _ _ _ _ _ _ _ c.requires.ready _ _ _ _ c.loop-live.invariant c.loop-live-test.true _ _ c.level-level.ensures c.level-level.auto.following
+    descend_takes _ _ _ _ _ _ _ _ c.args.map.now.ready _ _ _ _ c.loop-live.invariant c.loop-live-test.true _ _ c.level-level.ensures c.level-level.auto.following
 
 pub loop-live-smaller : goal.loop-live-smaller
 loop-live-smaller c =
-    rw c.with_level-found.ensures (descend_less _ _ _ _ _ _ _ _ c.requires.ready _ _ _ _ c.loop-live.invariant c.loop-live-test.true _ _ c.level-level.ensures c.level-level.auto.following)
+    rw c.with_level-found.ensures (descend_less _ _ _ _ _ _ _ _ c.args.map.now.ready _ _ _ _ c.loop-live.invariant c.loop-live-test.true _ _ c.level-level.ensures c.level-level.auto.following)
 
 pub loop-live-preserved : goal.loop-live-preserved
 loop-live-preserved c =
     let i = c.insert_from in
-    rw c.with_level-found.ensures (descend_next _ _ _ _ _ _ _ _ c.requires.ready _ _ _ _ c.loop-live.invariant c.loop-live-test.true _ _ c.level-level.ensures c.level-level.auto.following _ i.auto.to i.ensures)
+    rw c.with_level-found.ensures (descend_next _ _ _ _ _ _ _ _ c.args.map.now.ready _ _ _ _ c.loop-live.invariant c.loop-live-test.true _ _ c.level-level.ensures c.level-level.auto.following _ i.auto.to i.ensures)
 
 pub returns : goal.returns
-returns c = descend_done _ _ _ _ _ _ _ _ c.requires.ready _ _ _ _ c.loop-live.invariant c.loop-live-test.false
+returns c = descend_done _ _ _ _ _ _ _ _ c.args.map.now.ready _ _ _ _ c.loop-live.invariant c.loop-live-test.false

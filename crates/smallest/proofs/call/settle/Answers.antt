@@ -4,13 +4,13 @@ use Rattle.smallest.proofs.call.settle.Goals as goal
 
 pub run-end-requires : goal.run-end-requires
 run-end-requires c =
-    can_run c.requires c.args.spacing c.whole-total.ensures c.target_of-target.ensures c.predicate_slack_persons-slack.ensures
+    can_run c.args.map.now c.requires c.args.spacing c.whole-total.ensures c.target_of-target.ensures c.predicate_slack_persons-slack.ensures
 
 pub conclude-requires : goal.conclude-requires
 conclude-requires c =
-    can_conclude c.requires c.args.spacing c.whole-total.ensures c.target_of-target.ensures c.predicate_slack_persons-slack.ensures c.run-end.ensures
+    can_conclude c.args.map.now c.requires c.args.spacing c.whole-total.ensures c.target_of-target.ensures c.predicate_slack_persons-slack.ensures c.run-end.ensures
 
 pub returns : goal.returns
 returns c =
-    is_settled c.requires c.args.spacing c.whole-total.ensures c.target_of-target.ensures c.predicate_slack_persons-slack.ensures c.run-end.ensures
+    is_settled c.args.map.now c.requires c.args.spacing c.whole-total.ensures c.target_of-target.ensures c.predicate_slack_persons-slack.ensures c.run-end.ensures
     c.conclude.ensures

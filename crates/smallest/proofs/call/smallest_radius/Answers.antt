@@ -6,7 +6,7 @@ use Rattle.grid.proofs.Answers.{PassedCall, decided_yes}
 use Rattle.sums_fill.proofs.Tables.{bare_filled}
 use Rattle.smallest_rules.specs.Call.{smallest_own, smallest_questions}
 use Rattle.smallest_rules.proofs.SmallestCalls.{smallest_passed, smallest_refused, smallest_answered}
-use Rattle.smallest.proofs.Settling.{to_fill, to_settle, settled_map}
+use Rattle.smallest.proofs.Settling.{to_fill, to_settle, to_lend, settled_map}
 use Rattle.most_populous.specs.Call.{Buffers, buffers}
 use Rattle.smallest.proofs.call.smallest_radius.Goals as goal
 use Rattle.smallest.proofs.call.smallest_radius.Goals.{In_ok-smallest_asked}
@@ -32,9 +32,12 @@ module _ (e : In_ok-smallest_asked) where
 pub fill_sums-requires : goal.fill_sums-requires
 fill_sums-requires c = to_fill _ _ _ _ _ (passed (goal.at.fill_sums-requires c).In_ok-smallest_asked)
 
+pub invariant_of-summed : goal.invariant_of-summed
+invariant_of-summed c =
+    record { ready = to_lend _ _ _ _ _ (passed (goal.at.invariant_of-summed c).In_ok-smallest_asked) _ c.fill_sums.ensures.filled c.fill_sums.ensures.small }
+
 pub settle-requires : goal.settle-requires
-settle-requires c =
-    to_settle _ _ _ _ _ (passed (goal.at.settle-requires c).In_ok-smallest_asked) _ c.fill_sums.ensures.filled c.fill_sums.ensures.small
+settle-requires c = to_settle _ _ _ _ _ (passed (goal.at.settle-requires c).In_ok-smallest_asked)
 
 pub returns : goal.returns
 returns c =

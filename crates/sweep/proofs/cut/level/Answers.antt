@@ -17,7 +17,6 @@ chunk-part-requires c =
     let p = c.requires in
     let l = c.loop-start in
     record {
-      ready = p.ready;
       chunk_words = level_words _ _ _ _ _ _ _ _ _ _ c.chunk_size-size.ensures p.n_in_bounds p.can_sweep _ _ _ l.invariant c.loop-start-test.true _ c.chunk_end-end.ensures;
       can_sweep = level_sweeps _ _ _ _ _ _ _ _ _ _ c.chunk_size-size.ensures p.n_in_bounds p.can_sweep _ _ _ l.invariant c.loop-start-test.true _ c.chunk_end-end.ensures;
     }

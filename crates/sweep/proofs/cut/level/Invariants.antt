@@ -4,4 +4,4 @@ use Rattle.sweep.proofs.Chunks.{Leveling}
 use Rattle.sweep.proofs.cut.level.Given as goal
 
 abbrev pub invariant-loop-start : goal.invariant-loop-start
-invariant-loop-start l = Leveling l.grid l.angles l.cosines l.sums l.current l.n l.km l.best l.initial.following l.size l.following l.done (min l.start l.n)
+invariant-loop-start l = Leveling l.map.globe.grid l.map.globe.angles.now l.map.globe.cosines.now l.map.sums.now l.current l.n l.km l.best l.initial.following l.size l.following l.done (min l.start l.n)

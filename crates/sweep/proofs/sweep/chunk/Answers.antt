@@ -8,6 +8,7 @@ use Prim.Native.Nat.{ℕ, ◌+◌, ◌<◌}
 use lib.Ieee.{Float, eq}
 use Rattle.grid.specs.declared.Cell.{Cell}
 use Rattle.grid.specs.Map.{Map}
+use Rattle.grid.specs.declared.Globe.{Globe}
 use Rattle.sums.specs.State.{table_map}
 use Rattle.circle_cells.specs.Circle.{population}
 use Rattle.kernel.specs.declared.Kernel.{Kernel}
@@ -23,7 +24,8 @@ use Rattle.bounds.specs.Bound.{wide_km}
 use Rattle.bounds.specs.State.{wide_kernel}
 use Rattle.bounds.specs.Requires.{CanWiden}
 use Rattle.levels.specs.Level.{examine, chunk}
-use Rattle.levels.specs.State.{blocks_from, Swept, summed_map, Serves}
+use Rattle.levels.specs.Requires.{Ready}
+use Rattle.levels.specs.State.{blocks_from, Swept, summed_lent, Serves}
 use Rattle.chunk_work.specs.State.{work_of}
 use Rattle.pieces.specs.Requires.{CanSplit}
 use Rattle.chunk_work.specs.declared.ChunkWork.{ChunkWork}
@@ -47,8 +49,14 @@ same_row x y e = grind (arith, nat_tests)
 -- ---- a turn, seen from its block
 
 module _ (h : After-odd_columns) where
+  abbrev globe : Globe
+  globe = h.args.map.now.globe
+
   abbrev the_map : Map
-  the_map = summed_map h.args.grid h.args.angles.now h.args.cosines.now h.args.sums.now
+  the_map = summed_lent h.args.map.now
+
+  abbrev ready : Ready globe.grid globe.angles.now globe.cosines.now h.args.map.now.sums.now
+  ready = h.args.map.now.ready
 
   abbrev block_of : Block
   block_of = h.from-block.result
@@ -59,28 +67,28 @@ module _ (h : After-odd_columns) where
   word : h.from-block.result ≡ of_word (get_or h.args.current.now (h.args.start + h.loop-word.word-index) 0)
   word = h.from-block.ensures ∙ ap of_word (word_at _ _ _ _ h.requires.chunk_words.order h.requires.chunk_words.words h.loop-word-test.true)
 
-  rectangle : Rectangle h.args.grid block_of
+  rectangle : Rectangle globe.grid block_of
   rectangle =
       let l = h.loop-word in
       let q = h.requires in
-      subst (Rectangle h.args.grid) (sym word)
-      (next_rectangle _ _ _ _ _ _ _ _ _ _ _ q.ready q.chunk_words q.can_sweep l.following l.work l.at _ l.invariant.0 place)
+      subst (Rectangle globe.grid) (sym word)
+      (next_rectangle _ _ _ _ _ _ _ _ _ _ _ ready q.chunk_words q.can_sweep l.following l.work l.at _ l.invariant.0 place)
 
-  can_widen : CanWiden h.args.grid h.args.angles.now h.args.cosines.now block_of
-  can_widen = let t = h.requires.ready in record { sheet = ready_sheet _ _ _ _ t; complete = ready_cosines _ _ _ _ t; rectangle = rectangle }
+  can_widen : CanWiden globe.grid globe.angles.now globe.cosines.now block_of
+  can_widen = record { sheet = ready_sheet _ _ _ _ ready; complete = ready_cosines _ _ _ _ ready; rectangle = rectangle }
 
   -- a kernel of the probe's row: it can be summed around the probe, to the people of the probe's circle
-  module _ (km : Float) (k : Kernel) (is : KernelAt h.args.grid h.args.angles.now (probe block_of).row km k) where
-    can_sum : CanSum h.args.grid k h.probe-p.result.col
-    can_sum = probe_placed _ _ _ _ h.requires.ready block_of rectangle h.probe-p.result h.probe-p.ensures km k is
+  module _ (km : Float) (k : Kernel) (is : KernelAt globe.grid globe.angles.now (probe block_of).row km k) where
+    can_sum : CanSum globe.grid k h.probe-p.result.col
+    can_sum = probe_placed _ _ _ _ ready block_of rectangle h.probe-p.result h.probe-p.ensures km k is
 
-    people : kernel_population (table_map h.args.grid h.args.sums.now) k h.probe-p.result.col ≡ population the_map km (probe block_of)
-    people = probe_people _ _ _ _ h.requires.ready block_of rectangle h.probe-p.result h.probe-p.ensures km k is
+    people : kernel_population (table_map globe.grid h.args.map.now.sums.now) k h.probe-p.result.col ≡ population the_map km (probe block_of)
+    people = probe_people _ _ _ _ ready block_of rectangle h.probe-p.result h.probe-p.ensures km k is
 
   -- ---- the wide kernels, either of which is the block's own once it is built or kept
 
   abbrev ServesNow : Block → Kernel → Type 0
-  ServesNow shape k = Serves h.args.grid h.args.angles.now h.args.cosines.now h.args.km shape k
+  ServesNow shape k = Serves globe.grid globe.angles.now globe.cosines.now h.args.km shape k
 
   abbrev WideNow : Block → Kernel → Type 0
   WideNow shape k = (k ≡ wide_kernel the_map.globe h.args.km block_of) × ServesNow shape k
@@ -103,7 +111,7 @@ module _ (h : After-odd_columns) where
   -- ---- the exact kernel
 
   abbrev ExactAt : Kernel → Type 0
-  ExactAt k = KernelAt h.args.grid h.args.angles.now (probe block_of).row h.args.km k
+  ExactAt k = KernelAt globe.grid globe.angles.now (probe block_of).row h.args.km k
 
   on_row : h.probe-p.result.row.0 ≡ (probe block_of).row.0
   on_row = ap (λ (x : Cell). x.row.0) h.probe-p.ensures
@@ -111,12 +119,12 @@ module _ (h : After-odd_columns) where
 -- ---- the goals
 
 pub build-exact-requires : goal.build-exact-requires
-build-exact-requires c = middle_on _ _ (ready_sheet _ _ _ _ c.requires.ready)
+build-exact-requires c = middle_on _ _ (ready_sheet _ _ _ _ c.args.map.now.ready)
 
 pub loop-word-init : goal.loop-word-init
 loop-word-init c =
     let shape = c.no_shape-one_shape in (
-      sweep_start _ _ _ _ _ _ _ _ _ _ _ c.requires.ready c.requires.chunk_words c.requires.can_sweep c.started-work.result (start_own _ _ _ c.started-work.result c.started-work.ensures),
+      sweep_start _ _ _ _ _ _ _ _ _ _ _ c.args.map.now.ready c.requires.chunk_words c.requires.can_sweep c.started-work.result (start_own _ _ _ c.started-work.result c.started-work.ensures),
       kernel_own _ _ _ _ _ c.build-exact.ensures,
       serves_none _ _ _ _ shape.result shape.ensures _,
       serves_none _ _ _ _ shape.result shape.ensures _,
@@ -147,10 +155,9 @@ circle_population-bound-requires-else-odd_columns c =
 pub build-exact-requires-then-ne : goal.build-exact-requires-then-ne
 build-exact-requires-then-ne c =
     let h = (goal.at.build-exact-requires-then-ne c).After-odd_columns in
-    let t = c.requires.ready in
     record {
-      sheet = ready_sheet _ _ _ _ t;
-      on = subst (λ (x : Cell). x.row.0 < c.args.grid.height) (sym c.probe-p.ensures) (probe_row_lem _ _ _ _ t (block_of h) (rectangle h));
+      sheet = ready_sheet _ _ _ _ (ready h);
+      on = subst (λ (x : Cell). x.row.0 < (globe h).grid.height) (sym c.probe-p.ensures) (probe_row_lem _ _ _ _ (ready h) (block_of h) (rectangle h));
     }
 
 pub circle_population-population-requires : goal.circle_population-population-requires
@@ -165,14 +172,14 @@ examined-work-requires c =
     let l = c.loop-word in
     let h = (goal.at.examined-work-requires c).After-odd_columns in
     subst (CanCount l.work) (sym (word h))
-    (sweep_counts _ _ _ _ _ _ _ _ _ _ _ c.requires.ready c.requires.chunk_words c.requires.can_sweep l.following l.work l.at _ l.invariant.0 (place h))
+    (sweep_counts _ _ _ _ _ _ _ _ _ _ _ (ready h) c.requires.chunk_words c.requires.can_sweep l.following l.work l.at _ l.invariant.0 (place h))
 
 pub write_children-at-requires : goal.write_children-at-requires
 write_children-at-requires c =
     let l = c.loop-word in
     let h = (goal.at.write_children-at-requires c).After-odd_columns in
     subst (λ (x : Block). CanSplit x l.following l.at) (sym (word h))
-    (sweep_room _ _ _ _ _ _ _ _ _ _ _ c.requires.ready c.requires.chunk_words c.requires.can_sweep l.following l.work l.at _ l.invariant.0 (place h))
+    (sweep_room _ _ _ _ _ _ _ _ _ _ _ (ready h) c.requires.chunk_words c.requires.can_sweep l.following l.work l.at _ l.invariant.0 (place h))
 
 -- the exact kernel stays that of its row, and the block's work is the definition's
 pub loop-word-preserved : goal.loop-word-preserved
@@ -207,13 +214,13 @@ loop-word-preserved c =
           )
     ] in
     let bound_is : j.bound ≡ population m j.wide (probe b) = wide.0.1 ∙ ap (λ (x : Float). population m x (probe b)) (sym wide.0.0) in
-    let exact : KernelAt c.args.grid c.args.angles.now c.if-asks.exact.row c.args.km c.if-asks.exact =
+    let exact : KernelAt (globe h).grid (globe h).angles.now c.if-asks.exact.row c.args.km c.if-asks.exact =
     elim c.if-asks.branch [
       | then-asks w ↦
           let e : ExactAt h w.if-ne.exact =
           elim w.if-ne.branch [ then-ne v ↦ kernel_kept _ _ c.probe-p.result.row _ w.if-ne.exact (v.exact-is ∙ v.build-exact-then-ne.ensures) (probe (block_of h)).row (on_row h) | else-ne v ↦ v.exact-is ∙ kernel_kept _ _ c.loop-word.exact.row _ c.loop-word.exact c.loop-word.invariant.1 (probe (block_of h)).row (same_row _ _ (sym w.ne.ensures ∙ v.if-ne.false) ∙ on_row h) ] in
           kernel_own _ _ (probe b).row _ c.if-asks.exact (w.exact-is ∙ e)
-      | else-asks w ↦ subst (λ (x : Kernel). KernelAt c.args.grid c.args.angles.now x.row c.args.km x) (sym w.exact-is) l.invariant.1
+      | else-asks w ↦ subst (λ (x : Kernel). KernelAt (globe h).grid (globe h).angles.now x.row c.args.km x) (sym w.exact-is) l.invariant.1
     ] in
     let people_is : s.result ≡ true → c.if-asks.population ≡ population m c.args.km (probe b) = λ yes.
     elim c.if-asks.branch [
@@ -228,7 +235,7 @@ loop-word-preserved c =
     let seen : (bs : List Block) → work_of c.examined-work.result (cond s.result (bs ++ b ∷ []) bs) ≡ examine m c.args.km (work_of l.work bs) b = λ bs.
     ap (λ (x : ChunkWork). work_of x (cond s.result (bs ++ b ∷ []) bs)) c.examined-work.ensures
     ∙ examined_is m c.args.km l.work b _ wide.0.0 _ bound_is s.result s.ensures c.if-asks.population people_is bs in (
-      sweep_next _ _ _ _ _ _ _ _ _ _ _ q.ready q.chunk_words q.can_sweep l.following l.work l.at _ l.invariant.0
+      sweep_next _ _ _ _ _ _ _ _ _ _ _ (ready h) q.chunk_words q.can_sweep l.following l.work l.at _ l.invariant.0
           (place h) c.examined-work.result s.result
           (subst (λ (x : Block). (bs : List Block) → work_of c.examined-work.result (cond s.result (bs ++ x ∷ []) bs) ≡ examine m c.args.km (work_of l.work bs) x) (word h) seen)
           _ wrote.result (rw (word h) at wrote.ensures) _ (omega arith),
@@ -243,8 +250,8 @@ returns c =
     let q = c.requires in
     let a = c.args in
     let done =
-    subst (λ (x : Option Candidate). Swept (chunk (summed_map a.grid a.angles.now a.cosines.now a.sums.now) a.km x (blocks_from a.start a.end a.current.now)) a.following.now a.live l.following
+    subst (λ (x : Option Candidate). Swept (chunk (summed_lent a.map.now) a.km x (blocks_from a.start a.end a.current.now)) a.following.now a.live l.following
     (record { held = l.work.held; tally = l.work.tally; live = l.at }))
     (start_held _ _ _ c.started-work.result c.started-work.ensures)
-    (sweep_done _ _ _ _ _ _ _ _ _ _ _ q.ready q.chunk_words q.can_sweep l.following l.work l.at _ l.invariant.0 (word_past _ _ _ _ q.chunk_words.order q.chunk_words.words c.loop-word-test.false)) in
+    (sweep_done _ _ _ _ _ _ _ _ _ _ _ a.map.now.ready q.chunk_words q.can_sweep l.following l.work l.at _ l.invariant.0 (word_past _ _ _ _ q.chunk_words.order q.chunk_words.words c.loop-word-test.false)) in
     rw c.result_of.ensures done
