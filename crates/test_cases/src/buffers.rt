@@ -1,4 +1,6 @@
 // The words that a call is lent.
+ghost use Rattle.std.specs.Prelude.{◌≡◌, IfOk, replicate};
+
 use std::alloc::{AllocError, Global};
 
 // The words lent for the sums and the two level buffers.
@@ -11,7 +13,11 @@ pub struct Buffers {
 
 impl Buffers {
     // So many words of each, all one value.
-    pub fn new(alloc: Global, word: u64, sums: usize, level: usize) -> Result<Buffers, AllocError> {
+    pub fn new(alloc: Global, word: u64, sums: usize, level: usize) -> Result<Buffers, AllocError>
+        ensures sums { IfOk result (λ b. b.sums.items ≡ replicate sums word) }
+        ensures current { IfOk result (λ b. b.current.items ≡ replicate level word) }
+        ensures following { IfOk result (λ b. b.following.items ≡ replicate level word) }
+    {
         let sums = vec![in alloc; word; sums]?;
         let current = vec![in alloc; word; level]?;
         let following = vec![in alloc; word; level]?;

@@ -1,5 +1,6 @@
 // A map that lines set: G its grid, C its counts, A its angles, K its cosines.
-ghost use Rattle.std.specs.Prelude.{◌≡◌, ℕ, length};
+ghost use Rattle.std.specs.Prelude.{◌≡◌, ℕ, IfOk, length, replicate};
+ghost use Rattle.floats.specs.Binary.{whole};
 ghost use Rattle.lists.specs.Front.{over};
 ghost use Rattle.test_lines.specs.Numbers.{or_last};
 ghost use Rattle.test_cases.specs.Board.{grid_of, no_map, board_of, board_set};
@@ -77,14 +78,20 @@ fn put<T: Drop, F: Fn(u64) -> T + Drop>(places: &mut [T], line: &[u64], of: F)
 }
 
 impl Board {
-    // No cells, so many words of each buffer, and room for so many counts, angles and rows.
+    // The map, and room for so many counts, angles and rows, each 0.
+    #[tactic(auto, using(floats::proofs::Literals::literal_0))]
     pub fn new(
         alloc: Global,
         map: Map,
         counts: usize,
         angles: usize,
         rows: usize,
-    ) -> Result<Board, AllocError> {
+    ) -> Result<Board, AllocError>
+        ensures map { IfOk result (λ b. b.map ≡ map) }
+        ensures counts { IfOk result (λ b. b.counts.items ≡ replicate counts 0) }
+        ensures angles { IfOk result (λ b. b.angles.items ≡ replicate angles (whole 0)) }
+        ensures cosines { IfOk result (λ b. b.cosines.items ≡ replicate rows (whole 0)) }
+    {
         let counts = vec![in alloc; 0u32; counts]?;
         let angles = vec![in alloc; 0.0f64; angles]?;
         let cosines = vec![in alloc; 0.0f64; rows]?;
