@@ -1,12 +1,12 @@
 // The wide circle of a block: how far its cells may stand from its probe, and the radius widened by that.
-ghost use Rattle.std.specs.Prelude.{◌≡◌, []};
-ghost use Rattle.grid.specs.Map.{globe_of};
+ghost use Rattle.std.specs.Prelude.{◌≡◌};
+ghost use Rattle.grid.specs.Map.{globe_lent};
 ghost use Rattle.bounds.specs.Bound.{slack_margin, slack_km, widened_by, wide_km};
 ghost use Rattle.bounds.specs.State.{wide_kernel};
 ghost use Rattle.bounds.specs.Requires.{WithCosines, CanWiden};
 
 use blocks::Block;
-use grid::Grid;
+use grid::Globe;
 use kernel::Kernel;
 
 // A degree in radians.
@@ -26,10 +26,11 @@ pub fn slack_margin() -> f64
 
 // How far a block's cells may stand from its probe, in kilometres: along the probe's parallel to a cell's column, then along the meridian to
 // its row, which is no shorter than the distance. The cosine is the probe's, since the first hop stays at its latitude.
-pub fn slack_km(grid: Grid, cosines: &[f64], block: Block) -> f64
-    requires { WithCosines grid cosines.now block }
-    ensures { result ≡ slack_km (globe_of grid [] cosines.now) block }
+pub fn slack_km(globe: &Globe<'_>, block: Block) -> f64
+    requires { WithCosines globe.now.grid globe.now.cosines.now block }
+    ensures { result ≡ slack_km (globe_lent globe.now) block }
 {
+    let Globe { grid, cosines, .. } = *globe;
     let p = blocks::probe(block);
     let row = p.row;
     let at = row.0 as usize;
@@ -57,19 +58,19 @@ pub fn widened_by(km: f64, slack: f64) -> f64
 }
 
 // The radius of a block's wide circle.
-pub fn wide_km(grid: Grid, cosines: &[f64], km: f64, block: Block) -> f64
-    requires { WithCosines grid cosines.now block }
-    ensures { result ≡ wide_km (globe_of grid [] cosines.now) km block }
+pub fn wide_km(globe: &Globe<'_>, km: f64, block: Block) -> f64
+    requires { WithCosines globe.now.grid globe.now.cosines.now block }
+    ensures { result ≡ wide_km (globe_lent globe.now) km block }
 {
-    widened_by(km, slack_km(grid, cosines, block))
+    widened_by(km, slack_km(globe, block))
 }
 
 // The kernel of a block's wide circle.
-#[tactic(auto, using(crate::proofs::Shaped::wide_sheet), unfolding(crate::specs::State::wide_kernel))]
-pub fn wide_kernel(grid: Grid, angles: &[f64], cosines: &[f64], km: f64, block: Block) -> Kernel
-    requires { CanWiden grid angles.now cosines.now block }
-    ensures { result ≡ wide_kernel (globe_of grid angles.now cosines.now) km block }
+#[tactic(auto, unfolding(crate::specs::State::wide_kernel))]
+pub fn wide_kernel(globe: &Globe<'_>, km: f64, block: Block) -> Kernel
+    requires { CanWiden globe.now.grid globe.now.angles.now globe.now.cosines.now block }
+    ensures { result ≡ wide_kernel (globe_lent globe.now) km block }
 {
     let row = blocks::probe(block).row;
-    kernel::build(grid, angles, row, wide_km(grid, cosines, km, block))
+    kernel::build(globe, row, wide_km(globe, km, block))
 }

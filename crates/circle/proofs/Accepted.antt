@@ -6,7 +6,7 @@ use lib.ListN.{get_or}
 use Rattle.lists.proofs.Bools.{of_true}
 use Rattle.floats.specs.Binary.{whole}
 use Rattle.grid.specs.declared.Cell.{Cell}
-use Rattle.grid.specs.Map.{Map, sheet_of}
+use Rattle.grid.specs.Map.{Map}
 use Rattle.grid.proofs.Answers.{PassedCall}
 use Rattle.grid.proofs.CellOrder.{On, on_grid_lem}
 use Rattle.sums.specs.Sums.{filled_sums}
@@ -41,8 +41,8 @@ module _ (m : Map) (sums : List ℕ) (km : ℕ) (centre : Cell) (p : PassedCall 
     table_is = table_map_lem m.globe.grid m.counts sums last to_fill filled
 
   -- once the kernel is built, at the radius that the questions left, it can be summed, to the circle's people
-  module _ (r : ℕ) (same : km ≡ r) (k : Kernel) (built : k ≡ kernel_of (sheet_of m.globe.grid m.globe.angles) centre.row (whole r)) where
-    is : k ≡ kernel_of (sheet_of m.globe.grid m.globe.angles) centre.row (whole km)
+  module _ (r : ℕ) (same : km ≡ r) (k : Kernel) (built : k ≡ kernel_of m.globe centre.row (whole r)) where
+    is : k ≡ kernel_of m.globe centre.row (whole km)
     is = rw same built
 
     pub to_sum : CanSum m.globe.grid k centre.col

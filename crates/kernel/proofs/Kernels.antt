@@ -17,8 +17,9 @@ use Rattle.lists.specs.Front.{tabulate}
 use Rattle.lists.proofs.Bools.{cases}
 use Rattle.lists.proofs.Fronts.{length_tabulate, get_d_tabulate}
 use Rattle.grid.specs.declared.Row.{Row}
+use Rattle.grid.specs.declared.Grid.{Grid}
 use Rattle.grid.specs.Grid.{angle_of}
-use Rattle.grid.specs.Map.{Globe, sheet_of}
+use Rattle.grid.specs.Map.{Globe, globe_of}
 use Rattle.grid.proofs.SheetOrder.{InOrder}
 use Rattle.kernel.specs.declared.Kernel.{Kernel}
 use Rattle.kernel.specs.Kernel.{row_reach, run_end, row_run, kernel_of}
@@ -238,15 +239,15 @@ module _ (s : Globe) (c : Row) (km : Float) (high : s.grid.height ≤ row_places
 
 -- ---- kernels read no cosine
 
-rows_sheet : (s : Globe) (row : Row) (km : Float) → row_reach (sheet_of s.grid s.angles) row km ≡ row_reach s row km
-unfolding row_reach
-rows_sheet s row km = λ i r.
-    cond (leb s.grid.height r || eq km (whole 0)) 0 (sym (reach_sheet s.grid s.angles s.cosines row (record { 0 = r }) (angle_of s.grid km)) i)
+module _ (g : Grid) (angles cosines others : List Float) (row : Row) (km : Float) where
+  rows_sheet : row_reach (globe_of g angles cosines) row km ≡ row_reach (globe_of g angles others) row km
+  unfolding row_reach
+  rows_sheet = λ i r. cond (leb g.height r || eq km (whole 0)) 0 (reach_sheet g angles cosines others row (record { 0 = r }) (angle_of g km) i)
 
-runs_sheet : (s : Globe) (row : Row) (km : Float) → row_run (sheet_of s.grid s.angles) row km ≡ row_run s row km
-unfolding row_run
-runs_sheet s row km = λ i r. cond (ltb 0 (rows_sheet s row km i r)) (run_end (rows_sheet s row km i) (row_places - r) r) 0
+  runs_sheet : row_run (globe_of g angles cosines) row km ≡ row_run (globe_of g angles others) row km
+  unfolding row_run
+  runs_sheet = λ i r. cond (ltb 0 (rows_sheet i r)) (run_end (rows_sheet i) (row_places - r) r) 0
 
-pub kernel_sheet : (s : Globe) (row : Row) (km : Float) → kernel_of (sheet_of s.grid s.angles) row km ≡ kernel_of s row km
-unfolding kernel_of
-kernel_sheet s row km = rw (rows_sheet s row km, runs_sheet s row km)
+  pub kernel_sheet : kernel_of (globe_of g angles cosines) row km ≡ kernel_of (globe_of g angles others) row km
+  unfolding kernel_of
+  kernel_sheet = rw (rows_sheet, runs_sheet)

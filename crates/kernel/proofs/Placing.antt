@@ -7,8 +7,7 @@ use mathlib.Core.List.{List}
 use lib.Ieee.{Float}
 use Rattle.grid.specs.declared.Row.{Row}
 use Rattle.grid.specs.declared.Col.{Col}
-use Rattle.grid.specs.declared.Grid.{Grid}
-use Rattle.grid.specs.Map.{Globe, Map, count, globe_of, sheet_of}
+use Rattle.grid.specs.Map.{Globe, Map, count}
 use Rattle.grid.specs.Questions.{sizes_in_range, sheet_in_order}
 use Rattle.grid.proofs.Answers.{Passed}
 use Rattle.grid.proofs.Sizes.{grid_sizes}
@@ -21,7 +20,7 @@ use Rattle.reach.specs.Reach.{row_places}
 use Rattle.reach.specs.Requires.{OnSheet}
 use Rattle.kernel.specs.Requires.{CanSum}
 use Rattle.kernel.specs.State.{KernelAt}
-use Rattle.kernel.proofs.Kernels.{kernel_sheet, kernel_banded, kernel_joined}
+use Rattle.kernel.proofs.Kernels.{kernel_banded, kernel_joined}
 use Rattle.kernel.proofs.Cells.{kernel_people}
 
 -- the people of kernels read no sheet
@@ -31,7 +30,7 @@ people_sheet m k col = refl
 
 -- ---- a kernel at hand
 
-module _ (g : Grid) (angles : List Float) (row : Row) (km : Float) (k : Kernel) (is : KernelAt g angles row km k) where
+module _ (s : Globe) (row : Row) (km : Float) (k : Kernel) (is : KernelAt s row km k) where
   pub kernel_row : k.row ≡ row
   unfolding kernel_of
   kernel_row = ap (λ (x : Kernel). x.row) is
@@ -41,39 +40,32 @@ module _ (g : Grid) (angles : List Float) (row : Row) (km : Float) (k : Kernel) 
   kernel_km = ap (λ (x : Kernel). x.km) is
 
   -- kept for a row of the same number it is the kernel of that row, and so of its own
-  pub kernel_kept : (next : Row) → row.0 ≡ next.0 → KernelAt g angles next km k
-  kernel_kept next e = is ∙ (λ i. kernel_of (sheet_of g angles) (record { 0 = e i }) km)
+  pub kernel_kept : (next : Row) → row.0 ≡ next.0 → KernelAt s next km k
+  kernel_kept next e = is ∙ (λ i. kernel_of s (record { 0 = e i }) km)
 
-  pub kernel_own : KernelAt g angles k.row km k
+  pub kernel_own : KernelAt s k.row km k
   kernel_own = kernel_kept k.row (sym (ap (λ (r : Row). r.0) kernel_row))
 
   -- of a row of a sheet that has passed questions 1 and 6
-  module _ (cosines : List Float) (sizes : sizes_in_range g ≡ true) (rules : sheet_in_order (globe_of g angles cosines) ≡ true)
-      (on : row.0 < g.height) (col : Col) where
-    abbrev s : Globe
-    s = globe_of g angles cosines
-
-    high : g.height ≤ row_places
-    high = (grid_sizes g sizes).rows
-
-    sheet_is : k ≡ kernel_of s row km
-    sheet_is = is ∙ kernel_sheet s row km
+  module _ (sizes : sizes_in_range s.grid ≡ true) (rules : sheet_in_order s ≡ true) (on : row.0 < s.grid.height) (col : Col) where
+    high : s.grid.height ≤ row_places
+    high = (grid_sizes s.grid sizes).rows
 
     -- it can be summed on a table
-    pub lent_placed : col.0 < g.width → CanSum g k col
+    pub lent_placed : col.0 < s.grid.width → CanSum s.grid k col
     lent_placed c =
         record {
-          band = rw sheet_is (kernel_banded s row km high on (in_order s rules));
-          runs = rw sheet_is (kernel_joined s row km high on (in_order s rules));
+          band = rw is (kernel_banded s row km high on (in_order s rules));
+          runs = rw is (kernel_joined s row km high on (in_order s rules));
           on = c;
         }
 
     -- to the people of its circle, on the map that the sheet and the table's counts make
-    pub lent_people : (counts : List ℕ) → kernel_population (counts_map g counts) k col
+    pub lent_people : (counts : List ℕ) → kernel_population (counts_map s.grid counts) k col
         ≡ population (record { globe = s; counts = counts }) km (record { row = row; col = col })
     lent_people counts =
         let m : Map = record { globe = s; counts = counts } in
-        people_sheet m k col ∙ ap (λ (x : Kernel). kernel_population m x col) sheet_is ∙ kernel_people m (in_order s rules) high row on km col
+        people_sheet m k col ∙ ap (λ (x : Kernel). kernel_population m x col) is ∙ kernel_people m (in_order s rules) high row on km col
 
 -- ---- on a map that is accepted
 
@@ -82,12 +74,12 @@ module _ (m : Map) (p : Passed m) (row : Row) (on : row.0 < m.globe.grid.height)
   on_sheet = record { sheet = record { cosines = m.globe.cosines; sizes = p.grid.sizes; complete = p.sheet; order = p.order }; on = on }
 
   -- the kernel of the row and a radius, around a column, on a table of the map's counts
-  module _ (km : Float) (col : Col) (k : Kernel) (is : k ≡ kernel_of (sheet_of m.globe.grid m.globe.angles) row km) where
+  module _ (km : Float) (col : Col) (k : Kernel) (is : KernelAt m.globe row km k) where
     pub placed : col.0 < m.globe.grid.width → CanSum m.globe.grid k col
-    placed = lent_placed m.globe.grid m.globe.angles row km k is m.globe.cosines p.grid.sizes p.order on col
+    placed = lent_placed m.globe row km k is p.grid.sizes p.order on col
 
     pub circle_people : (sums : List ℕ) → table_map m.globe.grid sums ≡ counts_map m.globe.grid m.counts
         → kernel_population (table_map m.globe.grid sums) k col ≡ population m km (record { row = row; col = col })
     circle_people sums e =
         ap (λ (t : Map). kernel_population t k col) e
-        ∙ lent_people m.globe.grid m.globe.angles row km k is m.globe.cosines p.grid.sizes p.order on col m.counts
+        ∙ lent_people m.globe row km k is p.grid.sizes p.order on col m.counts

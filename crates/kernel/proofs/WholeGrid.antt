@@ -16,8 +16,9 @@ use Rattle.lists.proofs.All.{all_of, all_fails, all_ext}
 use Rattle.lists.proofs.Bools.{cases}
 use Rattle.grid.specs.declared.Grid.{Grid}
 use Rattle.grid.specs.declared.Row.{Row}
+use Rattle.grid.specs.declared.Cell.{Cell}
 use Rattle.grid.specs.Grid.{cell, closing, column_distance}
-use Rattle.grid.specs.Map.{globe_of, sheet_of}
+use Rattle.grid.specs.Map.{Globe, globe_of}
 use Rattle.grid.specs.Questions.{sizes_in_range}
 use Rattle.grid.proofs.Distance.{distance_half}
 use Rattle.grid.proofs.SheetOrder.{in_order}
@@ -67,18 +68,19 @@ module _ (g : Grid) (sizes : sizes_in_range g ≡ true) (k : Kernel) where
 
 -- ---- a circle
 
-module _ (g : Grid) (angles : List Float) (row : Row) (on : OnSheet g angles row) (km : Float) where
+module _ (s : Globe) (row : Row) (on : OnSheet s.grid s.angles row) (km : Float) where
   -- circles and kernels read no cosine
-  cell_covered : (r k : ℕ) → r < g.height
-      → in_kernel g (kernel_of (sheet_of g angles) row km) (record { 0 = 0 }) (cell r k)
-      ≡ in_circle (sheet_of g angles) km (record { row = row; col = record { 0 = 0 } }) (cell r k)
+  cell_covered : (r k : ℕ) → r < s.grid.height
+      → in_kernel s.grid (kernel_of s row km) (record { 0 = 0 }) (cell r k) ≡ in_circle s km (record { row = row; col = record { 0 = 0 } }) (cell r k)
   cell_covered r k h =
-      let s = globe_of g angles on.sheet.cosines in
-      ap (λ (x : Kernel). in_kernel g x (record { 0 = 0 }) (cell r k)) (kernel_sheet s row km)
-      ∙ kernel_cells s (in_order s on.sheet.order) (grid_sizes g on.sheet.sizes).rows row on.on km (record { 0 = 0 }) (cell r k) h
-      ∙ sym (circle_sheet s km (record { row = row; col = record { 0 = 0 } }) (cell r k))
+      let g = s.grid in
+      let t = globe_of g s.angles on.sheet.cosines in
+      let c : Cell = record { row = row; col = record { 0 = 0 } } in
+      ap (λ (x : Kernel). in_kernel g x (record { 0 = 0 }) (cell r k)) (kernel_sheet g s.angles s.cosines on.sheet.cosines row km)
+      ∙ kernel_cells t (in_order t on.sheet.order) (grid_sizes g on.sheet.sizes).rows row on.on km (record { 0 = 0 }) (cell r k) h
+      ∙ sym (circle_sheet t km c (cell r k)) ∙ circle_sheet s km c (cell r k)
 
   -- THE KERNEL IS THE WHOLE GRID WHERE ITS CIRCLE IS
-  pub kernel_covers_lem : kernel_covers g (kernel_of (sheet_of g angles) row km) ≡ covers_whole_grid (sheet_of g angles) km row
+  pub kernel_covers_lem : kernel_covers s.grid (kernel_of s row km) ≡ covers_whole_grid s km row
   unfolding kernel_covers
-  kernel_covers_lem = covers_of (sheet_of g angles) km row (in_kernel g (kernel_of (sheet_of g angles) row km) (record { 0 = 0 })) (λ r k h l. cell_covered r k h)
+  kernel_covers_lem = covers_of s km row (in_kernel s.grid (kernel_of s row km) (record { 0 = 0 })) (λ r k h l. cell_covered r k h)

@@ -13,7 +13,7 @@ use Rattle.lists.proofs.Sums.{times_le}
 use Rattle.grid.specs.declared.Cell.{Cell}
 use Rattle.grid.specs.declared.Grid.{Grid}
 use Rattle.grid.specs.Grid.{most_columns, most_rows, closing}
-use Rattle.grid.specs.Map.{Map}
+use Rattle.grid.specs.Map.{Map, globe_of}
 use Rattle.grid.specs.Questions.{sheet_complete}
 use Rattle.grid.proofs.Sizes.{Sizes, grid_sizes}
 use Rattle.sums.specs.State.{table_map, counts_of}
@@ -74,16 +74,16 @@ module _ (g : Grid) (angles cosines : List Float) (sums : List ℕ) (t : Ready g
         times_le (b.last.0 + 1 - b.first.0) (b.south.0 + 1 - b.north.0) most_columns most_rows (omega (arith, r.east, ready_sizes.columns)) (omega (arith, r.south, ready_sizes.rows))
 
     -- a kernel of the probe's row around the probe's column
-    module _ (p : Cell) (p-is : p ≡ probe b) (km : Float) (k : Kernel) (is : KernelAt g angles (probe b).row km k) where
+    module _ (p : Cell) (p-is : p ≡ probe b) (km : Float) (k : Kernel) (is : KernelAt (globe_of g angles cosines) (probe b).row km k) where
       pub probe_placed : CanSum g k p.col
       probe_placed =
           subst (λ (x : Cell). CanSum g k x.col) (sym p-is)
-          (lent_placed g angles (probe b).row km k is cosines t.sizes t.order probe_row_lem (probe b).col probe_column)
+          (lent_placed (globe_of g angles cosines) (probe b).row km k is t.sizes t.order probe_row_lem (probe b).col probe_column)
 
       pub probe_people : kernel_population (table_map g sums) k p.col ≡ population m km (probe b)
       probe_people =
           ap (λ (x : Cell). kernel_population (table_map g sums) k x.col) p-is
-          ∙ lent_people g angles (probe b).row km k is cosines t.sizes t.order probe_row_lem (probe b).col (counts_of g sums)
+          ∙ lent_people (globe_of g angles cosines) (probe b).row km k is t.sizes t.order probe_row_lem (probe b).col (counts_of g sums)
 
     pub can_count : (w : ChunkWork) → weight w.tally ≤ 2 ^ 30 → CanCount w b
     can_count w light = record { light = light; small = block_small; narrow = omega (arith, block_narrow) }

@@ -12,7 +12,7 @@ use Rattle.std.specs.List.Sorted.{IsPartitionedBy, IsPartitionPoint}
 use Rattle.grid.specs.declared.Row.{Row}
 use Rattle.grid.specs.declared.Grid.{Grid}
 use Rattle.grid.specs.Grid.{closing}
-use Rattle.grid.specs.Map.{Globe, angle_at, sheet_index, globe_of, sheet_of}
+use Rattle.grid.specs.Map.{Globe, angle_at, sheet_index, globe_of}
 use Rattle.grid.specs.Requires.{InSheet}
 use Rattle.grid.proofs.Index.{place_in}
 use Rattle.reach.specs.Reach.{reach}
@@ -74,12 +74,13 @@ module _ {g : Grid} {angles : List Float} {c r : Row} (p : PairOnSheet g angles 
       unfolding inside angle_at sheet_index
       passes_is k = let f : (c.0 * g.height + r.0) * (closing g + 1) + k ≡ first + k = omega (arith, e) in rw f
 
-      pub row_reach : (n : ℕ) → Edge (passes angles first limit) 0 (g.width / 2 + 1) n → n ≡ reach (sheet_of g angles) c r limit
+      pub row_reach : (cosines : List Float) (n : ℕ) → Edge (passes angles first limit) 0 (g.width / 2 + 1) n
+          → n ≡ reach (globe_of g angles cosines) c r limit
       unfolding closing
-      row_reach n d =
+      row_reach cosines n d =
           sym (reach_edge s (sheet_order p.sheet) c.0 p.centre_on limit r.0 p.row_on n
           (record { from = d.from; to = d.to; passed = λ h. passes_is (n - 1) ∙ d.passed h; failed = λ h. passes_is n ∙ d.failed h }))
-          ∙ reach_sheet g angles p.sheet.cosines c r limit
+          ∙ reach_sheet g angles p.sheet.cosines cosines c r limit
 
       -- the angles of the row do not fall, and where they leave the limit the reach ends
       same : (k : ℕ) → (d : Float) → k < length row_part → get_or row_part k d ≡ get_or angles (first + k) nan
@@ -94,11 +95,11 @@ module _ {g : Grid} {angles : List Float} {c r : Row} (p : PairOnSheet g angles 
           ∙ inside_first s (sheet_order p.sheet) c.0 p.centre_on limit r.0 p.row_on i j h (omega arith)
           (passes_is j ∙ sym (ap (λ y. le y limit) (same j d l)) ∙ e))
 
-      pub row_halved : (k : ℕ) → k ≤ length row_part → IsPartitionPoint (λ y. le y limit ≡ true) (λ y. le y limit ≡ false) row_part k
-          → k ≡ reach (sheet_of g angles) c r limit
-      row_halved k l (below, above) =
+      pub row_halved : (cosines : List Float) (k : ℕ) → k ≤ length row_part
+          → IsPartitionPoint (λ y. le y limit ≡ true) (λ y. le y limit ≡ false) row_part k → k ≡ reach (globe_of g angles cosines) c r limit
+      row_halved cosines k l (below, above) =
           let on : k ≤ g.width / 2 + 1 = omega (arith, row_length) in
-          row_reach k
+          row_reach cosines k
           (record {
             from = omega arith;
             to = on;

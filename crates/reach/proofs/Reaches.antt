@@ -13,7 +13,7 @@ use Rattle.lists.proofs.Bools.{cases, not_both, and_left}
 use Rattle.grid.specs.declared.Row.{Row}
 use Rattle.grid.specs.declared.Grid.{Grid}
 use Rattle.grid.specs.Grid.{most_columns, closing}
-use Rattle.grid.specs.Map.{Globe, angle_at, globe_of, sheet_of}
+use Rattle.grid.specs.Map.{Globe, angle_at, globe_of}
 use Rattle.grid.specs.Questions.{angle, sheet_complete}
 use Rattle.grid.proofs.Sizes.{Sizes, grid_sizes}
 use Rattle.grid.proofs.SheetOrder.{InOrder, in_order, offsets_first, rows_band}
@@ -66,10 +66,10 @@ module _ (s : Globe) (q : InOrder s) (c : ℕ) (C : c < s.grid.height) (limit : 
       between (inr w) l = omega (arith, w.1)
 
 -- reaches read no cosine
-pub reach_sheet : (g : Grid) (angles cosines : List Float) (c r : Row) (limit : Float)
-    → reach (globe_of g angles cosines) c r limit ≡ reach (sheet_of g angles) c r limit
+pub reach_sheet : (g : Grid) (angles cosines others : List Float) (c r : Row) (limit : Float)
+    → reach (globe_of g angles cosines) c r limit ≡ reach (globe_of g angles others) c r limit
 unfolding reach angle_at
-reach_sheet g angles cosines c r limit = refl
+reach_sheet g angles cosines others c r limit = refl
 
 -- what a tested sheet says in plain numbers
 module _ {g : Grid} {angles : List Float} (t : Sheet g angles) where
@@ -89,8 +89,9 @@ module _ {g : Grid} {angles : List Float} (t : Sheet g angles) where
   pub sheet_high : g.height ≤ row_places
   sheet_high = sheet_sizes.rows
 
-  pub sheet_beyond : (c : Row) → c.0 < g.height → (limit : Float) (r u : ℕ) → u < g.height → (c.0 ≤ r × r ≤ u) ⊎ (u ≤ r × r ≤ c.0)
-      → reach (sheet_of g angles) c (record { 0 = r }) limit ≡ 0 → reach (sheet_of g angles) c (record { 0 = u }) limit ≡ 0
-  sheet_beyond c C limit r u h p e =
-      sym (reach_sheet g angles t.cosines c (record { 0 = u }) limit)
-      ∙ missed_beyond (globe_of g angles t.cosines) sheet_order c.0 C limit r u h p (reach_sheet g angles t.cosines c (record { 0 = r }) limit ∙ e)
+  pub sheet_beyond : (cosines : List Float) (c : Row) → c.0 < g.height → (limit : Float) (r u : ℕ) → u < g.height → (c.0 ≤ r × r ≤ u) ⊎ (u ≤ r × r ≤ c.0)
+      → reach (globe_of g angles cosines) c (record { 0 = r }) limit ≡ 0 → reach (globe_of g angles cosines) c (record { 0 = u }) limit ≡ 0
+  sheet_beyond cosines c C limit r u h p e =
+      reach_sheet g angles cosines t.cosines c (record { 0 = u }) limit
+      ∙ missed_beyond (globe_of g angles t.cosines) sheet_order c.0 C limit r u h p
+      (reach_sheet g angles t.cosines cosines c (record { 0 = r }) limit ∙ e)

@@ -2,11 +2,11 @@
 ghost use Rattle.std.specs.Prelude.{◌≡◌, ◌+◌, ◌-◌, ◌≤◌, ◌<◌, length};
 ghost use Rattle.std.specs.Float.Ieee.{le};
 ghost use Rattle.reach.specs.Reach.{reach, row_places};
-ghost use Rattle.grid.specs.Map.{sheet_of};
+ghost use Rattle.grid.specs.Map.{globe_lent};
 ghost use Rattle.reach.specs.Requires.{OnSheet, PairOnSheet};
 ghost use Rattle.reach.specs.State.{passes, Edge, NorthWalked, SouthWalked};
 
-use grid::{Grid, Row};
+use grid::{Globe, Row};
 
 // A circle's edge belongs to it.
 pub fn within(angle: f64, limit: f64) -> bool
@@ -16,10 +16,11 @@ pub fn within(angle: f64, limit: f64) -> bool
 }
 
 // How many offsets of a row lie within an angle: found by halves, since angles do not fall as the offset grows.
-pub fn reach_by_halves(grid: Grid, angles: &[f64], centre: Row, row: Row, limit: f64) -> u8
-    requires { PairOnSheet grid angles.now centre row }
-    ensures { result ≡ reach (sheet_of grid angles.now) centre row limit }
+pub fn reach_by_halves(globe: &Globe<'_>, centre: Row, row: Row, limit: f64) -> u8
+    requires { PairOnSheet globe.now.grid globe.now.angles.now centre row }
+    ensures { result ≡ reach (globe_lent globe.now) centre row limit }
 {
+    let Globe { grid, angles, .. } = *globe;
     let first = grid::sheet_index(grid, centre, row, 0);
     let end = first + grid.width as usize / 2 + 1;
     angles[first..end].partition_point(|angle| within(*angle, limit)) as u8
@@ -55,10 +56,11 @@ fn shrunk(angles: &[f64], first: usize, limit: f64, from: usize) -> usize
 // How many offsets of a row lie within an angle: all, where the last is, as in most rows of a very large circle; else found step by step
 // from a guess. From row to row outward the reach changes little, so that the neighbour's is a guess with few steps to go, fewer than
 // by halves. Any guess gives the same.
-fn reach_of(grid: Grid, angles: &[f64], centre: Row, row: Row, limit: f64, guess: u8) -> u8
-    requires { PairOnSheet grid angles.now centre row }
-    ensures { result ≡ reach (sheet_of grid angles.now) centre row limit }
+fn reach_of(globe: &Globe<'_>, centre: Row, row: Row, limit: f64, guess: u8) -> u8
+    requires { PairOnSheet globe.now.grid globe.now.angles.now centre row }
+    ensures { result ≡ reach (globe_lent globe.now) centre row limit }
 {
+    let Globe { grid, angles, .. } = *globe;
     let first = grid::sheet_index(grid, centre, row, 0);
     let last = grid.width as usize / 2;
     if within(angles[first + last], limit) {
@@ -74,19 +76,18 @@ fn reach_of(grid: Grid, angles: &[f64], centre: Row, row: Row, limit: f64, guess
 // The reaches of the rows north of the centre row, up to the first row missed. Gives the northernmost row touched.
 #[tactic(auto, using(crate::proofs::Walks::filled_none))]
 pub fn walk_north(
-    grid: Grid,
-    angles: &[f64],
+    globe: &Globe<'_>,
     centre: Row,
     limit: f64,
     mut guess: u8,
     reaches: &mut [u8],
 ) -> u32
-    requires on_sheet { OnSheet grid angles.now centre }
+    requires on_sheet { OnSheet globe.now.grid globe.now.angles.now centre }
     requires reaches_len { length reaches.old ≡ row_places }
-    ensures { NorthWalked (sheet_of grid angles.now) centre limit reaches.old reaches.new result }
+    ensures { NorthWalked (globe_lent globe.now) centre limit reaches.old reaches.new result }
 {
     for row in (0..centre.0).rev() {
-        let n = reach_of(grid, angles, centre, Row(row), limit, guess);
+        let n = reach_of(globe, centre, Row(row), limit, guess);
         if n == 0 {
             return row + 1;
         }
@@ -100,24 +101,23 @@ pub fn walk_north(
 // `walk_north`: one over any iterator of rows would be asked for each walk's end, and for the band that its rows make, again.
 #[tactic(auto, using(crate::proofs::Walks::filled_none))]
 pub fn walk_south(
-    grid: Grid,
-    angles: &[f64],
+    globe: &Globe<'_>,
     centre: Row,
     limit: f64,
     mut guess: u8,
     reaches: &mut [u8],
 ) -> u32
-    requires on_sheet { OnSheet grid angles.now centre }
+    requires on_sheet { OnSheet globe.now.grid globe.now.angles.now centre }
     requires reaches_len { length reaches.old ≡ row_places }
-    ensures { SouthWalked (sheet_of grid angles.now) centre limit reaches.old reaches.new result }
+    ensures { SouthWalked (globe_lent globe.now) centre limit reaches.old reaches.new result }
 {
-    for row in centre.0..grid.height {
-        let n = reach_of(grid, angles, centre, Row(row), limit, guess);
+    for row in centre.0..globe.grid.height {
+        let n = reach_of(globe, centre, Row(row), limit, guess);
         if n == 0 {
             return row;
         }
         reaches[row as usize] = n;
         guess = n;
     }
-    grid.height
+    globe.grid.height
 }

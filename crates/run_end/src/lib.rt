@@ -2,14 +2,14 @@
 #![tactic(auto)]
 
 ghost use Rattle.std.specs.Prelude.{◌≡◌};
-ghost use Rattle.grid.specs.Map.{sheet_of};
+ghost use Rattle.grid.specs.Map.{globe_lent};
 ghost use Rattle.reach.specs.Requires.{OnSheet};
 ghost use Rattle.probes.specs.State.{end_covers, answer_by};
 ghost use Rattle.probes.specs.Requires.{CanConclude};
 ghost use Rattle.run_end.specs.State.{end_from};
 
 use climb::Bracket;
-use grid::Grid;
+use grid::Globe;
 use probes::{RunEnd, RunState, Smallest};
 use share::Target;
 
@@ -29,31 +29,24 @@ pub fn end_of(bracket: Bracket, state: RunState) -> RunEnd
 }
 
 // At the ceiling, where all radii fell short, every circle is the whole grid.
-#[tactic(auto, using(kernel::proofs::WholeGrid::kernel_covers_lem), unfolding(probes::specs::State::end_covers))]
-fn covers(grid: Grid, angles: &[f64], end: RunEnd) -> bool
-    requires { OnSheet grid angles.now end.centre.row }
-    ensures { result ≡ end_covers (sheet_of grid angles.now) end }
+#[tactic(auto, unfolding(probes::specs::State::end_covers))]
+fn covers(globe: &Globe<'_>, end: RunEnd) -> bool
+    requires { OnSheet globe.now.grid globe.now.angles.now end.centre.row }
+    ensures { result ≡ end_covers (globe_lent globe.now) end }
 {
     if !end.reached {
         return true;
     }
-    let kernel = kernel::build(grid, angles, end.centre.row, end.radius_km.0 as f64);
-    kernel_sums::covers(grid, &kernel)
+    let kernel = kernel::build(globe, end.centre.row, end.radius_km.0 as f64);
+    kernel_sums::covers(globe.grid, &kernel)
 }
 
 // The answer at the end of a run. The slack bounds how far rounding moves a population that is summed in binary64 row by row, as the original
 // sums it. It decides nothing: it tells which probes stand too close to the target to be sure of.
 #[tactic(auto, using(floats::proofs::Literals::literal_0), unfolding(probes::specs::State::answer_by))]
-pub fn conclude(
-    grid: Grid,
-    angles: &[f64],
-    target: Target,
-    slack: f64,
-    total: u64,
-    end: RunEnd,
-) -> Smallest
-    requires { CanConclude grid angles.now total end }
-    ensures { result ≡ answer_by (sheet_of grid angles.now) target slack total end }
+pub fn conclude(globe: &Globe<'_>, target: Target, slack: f64, total: u64, end: RunEnd) -> Smallest
+    requires { CanConclude globe.now.grid globe.now.angles.now total end }
+    ensures { result ≡ answer_by (globe_lent globe.now) target slack total end }
 {
     Smallest {
         radius_km: end.radius_km,
@@ -61,7 +54,7 @@ pub fn conclude(
         target,
         share_achieved: share::share_of(end.centre.population, total),
         short_below: end.short_below,
-        covers_whole_grid: covers(grid, angles, end),
+        covers_whole_grid: covers(globe, end),
         predicate_slack_persons: slack,
         ambiguity: end.ambiguity,
         tolerance_persons: 0.0,

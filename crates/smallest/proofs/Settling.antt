@@ -5,7 +5,7 @@ use mathlib.Core.List.{List}
 use lib.Ieee.{Float}
 use lib.ListN.{get_or}
 use Rattle.floats.specs.Binary.{whole}
-use Rattle.grid.specs.Map.{Map, sheet_of}
+use Rattle.grid.specs.Map.{Map, globe_lent}
 use Rattle.grid.proofs.Sizes.{grid_sizes}
 use Rattle.grid.proofs.Answers.{PassedCall}
 use Rattle.sums.specs.Sums.{total, filled_sums}
@@ -26,7 +26,7 @@ use Rattle.probes.specs.declared.Smallest.{Smallest}
 use Rattle.probes.specs.Smallest.{Settled, smallest}
 use Rattle.probes.specs.State.{ran_with, ran, answer_by}
 use Rattle.probes.specs.Requires.{CanRun, CanConclude}
-use Rattle.run_end.proofs.Ends.{answer_sheet, settled_by, ran_settles}
+use Rattle.run_end.proofs.Ends.{settled_by, ran_settles}
 use Rattle.probes.proofs.Probes.{people_exact}
 use Rattle.probes.proofs.Centres.{ran_in_bounds}
 use Rattle.probes.specs.declared.RunEnd.{RunEnd}
@@ -71,14 +71,14 @@ module _ (map : SummedMap) {current following : List ℕ} {l : Ledger} (can : Ca
           exact = rw all_people exact;
         }
 
-    pub is_settled : {a : Smallest} → a ≡ answer_by (sheet_of map.globe.grid map.globe.angles.now) t slack people end
+    pub is_settled : {a : Smallest} → a ≡ answer_by (globe_lent map.globe) t slack people end
         → IsSettled (smallest (summed_lent map) spacing share l) a l'
     is_settled {a} f =
         let m = summed_lent map in
         let r = ran_with end l' in
         let same : settled_by m share r ≡ smallest m spacing share l = ap (settled_by m share) ends ∙ rw same_share (ran_settles m spacing share l) in
         let width : slack ≡ predicate_slack_persons map.globe.grid (whole (total m)) = k ∙ ap (λ (x : Target). predicate_slack_persons map.globe.grid x.total) the_target in
-        let whole-answer : a ≡ (settled_by m share r).answer = f ∙ answer_sheet map.globe.grid map.globe.angles.now map.globe.cosines.now t slack people end ∙ rw (the_target, width, all_people) in
+        let whole-answer : a ≡ (settled_by m share r).answer = f ∙ rw (the_target, width, all_people) in
         record { answer = rw (← same) whole-answer; ledger = ap (λ (x : Settled). x.ledger) same }
 
 -- ---- what an accepted call knows at each of its steps

@@ -10,7 +10,7 @@ ghost use Rattle.smallest_rules.specs.Call.{smallest_questions, smallest_gave, s
 ghost use Rattle.smallest.specs.Requires.{CanSettle};
 ghost use Rattle.smallest_rules.specs.State.{IsSettled};
 
-use grid::{Globe, Map, Refusal};
+use grid::{Map, Refusal};
 use ledger::Ledger;
 use levels::SummedMap;
 use probes::Smallest;
@@ -31,7 +31,7 @@ fn settle(
         (smallest (summed_lent map.now) spacing share ledger.old)
         result ledger.new }
 {
-    let Globe { grid, angles, .. } = map.globe;
+    let grid = map.globe.grid;
     let table = Table {
         grid,
         sums: map.sums,
@@ -42,7 +42,7 @@ fn settle(
     let end = run::run(
         map, current, following, spacing, target, slack, total, ledger,
     );
-    run_end::conclude(grid, angles, target, slack, total, end)
+    run_end::conclude(&map.globe, target, slack, total, end)
 }
 
 // The first question of the call that is answered no.

@@ -23,12 +23,12 @@ use Rattle.chunk_work.specs.State.{no_shape}
 -- ---- wide kernels
 
 module _ (s : Globe) (km : Float) (b : Block) (k : Kernel) (is : k ≡ wide_kernel s km b) where
-  pub wide_at : KernelAt s.grid s.angles (probe b).row (wide_km s km b) k
+  pub wide_at : KernelAt s (probe b).row (wide_km s km b) k
   unfolding wide_kernel
   wide_at = is
 
   pub wide_radius_lem : k.km ≡ wide_km s km b
-  wide_radius_lem = kernel_km s.grid s.angles (probe b).row (wide_km s km b) k wide_at
+  wide_radius_lem = kernel_km s (probe b).row (wide_km s km b) k wide_at
 
 module _ (g : Grid) (angles cosines : List Float) (km : Float) where
   -- any kernel serves the shape of no block

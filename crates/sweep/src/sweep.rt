@@ -11,7 +11,7 @@ ghost use Rattle.levels.specs.Requires.{CanSweep, ChunkWords};
 use blocks::Block;
 use candidates::Candidate;
 use chunk_work::ChunkWork;
-use grid::{Globe, Grid, Row};
+use grid::{Grid, Row};
 use kernel_sums::circle_population;
 use levels::{ChunkResult, SummedMap};
 use table::Table;
@@ -75,16 +75,12 @@ pub(crate) fn chunk(
         (chunk (summed_lent map.now) km best (blocks_from start end current.now))
         following.old live following.new result }
 {
-    let Globe {
-        grid,
-        angles,
-        cosines,
-    } = map.globe;
+    let grid = map.globe.grid;
     let table = Table {
         grid,
         sums: map.sums,
     };
-    let mut exact = kernel::build(grid, angles, Row(grid.height / 2), km);
+    let mut exact = kernel::build(&map.globe, Row(grid.height / 2), km);
     let mut one = exact;
     let mut one_shape = chunk_work::no_shape();
     let mut two = exact;
@@ -98,14 +94,14 @@ pub(crate) fn chunk(
         let mut bound: u64 = 0;
         if chunk_work::odd_columns(block) {
             if !blocks::same_shape(one_shape, block) {
-                one = bounds::wide_kernel(grid, angles, cosines, km, block);
+                one = bounds::wide_kernel(&map.globe, km, block);
                 one_shape = block;
             }
             wide = one.km;
             bound = circle_population(table, &one, p.col);
         } else {
             if !blocks::same_shape(two_shape, block) {
-                two = bounds::wide_kernel(grid, angles, cosines, km, block);
+                two = bounds::wide_kernel(&map.globe, km, block);
                 two_shape = block;
             }
             wide = two.km;
@@ -115,7 +111,7 @@ pub(crate) fn chunk(
         let mut population = bound;
         if chunk_work::asks(survives, wide, km) {
             if exact.row != p.row {
-                exact = kernel::build(grid, angles, p.row, km);
+                exact = kernel::build(&map.globe, p.row, km);
             }
             population = circle_population(table, &exact, p.col);
         }

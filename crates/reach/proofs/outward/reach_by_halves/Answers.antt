@@ -31,5 +31,5 @@ returns c =
     let p = c.requires in
     let e = c.sheet_index-first.ensures in
     let point = c.partition_point.ensures in
-    row_halved p e c.args.limit _ point.bound
+    row_halved p e c.args.limit _ _ point.bound
     (IsPartitionPoint-from_clause (λ y. le y c.args.limit) (row_part p e) _ point.partitioned (row_rises p e c.args.limit) (λ a r f k. search (rules, tests)))

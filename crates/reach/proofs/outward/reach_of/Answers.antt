@@ -25,7 +25,7 @@ overflow_add-result c = omega (arith, sheet_wide c.requires.sheet)
 
 pub returns-then-within : goal.returns-then-within
 returns-then-within c =
-    row_reach c.requires c.sheet_index-first.ensures c.args.limit _
+    row_reach c.requires c.sheet_index-first.ensures c.args.limit _ _
     (record {
       from = omega arith;
       to = omega arith;
@@ -50,7 +50,7 @@ overflow_cast-result-then-within-2 c = omega (arith, c.grown.ensures.to, sheet_w
 
 pub returns-then-within-2 : goal.returns-then-within-2
 returns-then-within-2 c =
-    row_reach c.requires c.sheet_index-first.ensures c.args.limit _
+    row_reach c.requires c.sheet_index-first.ensures c.args.limit _ _
     (edge_wider _ _ (omega arith) (λ h. rw add-sub_cancel (sym c.within-2.ensures ∙ c.if-within-2.true))
     (λ h. sym c.within.ensures ∙ c.if-within.false) c.grown.ensures)
 
@@ -59,5 +59,5 @@ shrunk-requires c = omega (arith, row_fits c.requires c.sheet_index-first.ensure
 
 pub returns : goal.returns
 returns c =
-    row_reach c.requires c.sheet_index-first.ensures c.args.limit _
+    row_reach c.requires c.sheet_index-first.ensures c.args.limit _ _
     (edge_wider _ _ (omega arith) (λ h. absurd (omega arith)) (λ h. sym c.within-2.ensures ∙ c.if-within-2.false) c.shrunk.ensures)

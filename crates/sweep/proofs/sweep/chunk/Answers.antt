@@ -78,7 +78,7 @@ module _ (h : After-odd_columns) where
   can_widen = record { sheet = ready_sheet _ _ _ _ ready; complete = ready_cosines _ _ _ _ ready; rectangle = rectangle }
 
   -- a kernel of the probe's row: it can be summed around the probe, to the people of the probe's circle
-  module _ (km : Float) (k : Kernel) (is : KernelAt globe.grid globe.angles.now (probe block_of).row km k) where
+  module _ (km : Float) (k : Kernel) (is : KernelAt the_map.globe (probe block_of).row km k) where
     can_sum : CanSum globe.grid k h.probe-p.result.col
     can_sum = probe_placed _ _ _ _ ready block_of rectangle h.probe-p.result h.probe-p.ensures km k is
 
@@ -111,7 +111,7 @@ module _ (h : After-odd_columns) where
   -- ---- the exact kernel
 
   abbrev ExactAt : Kernel → Type 0
-  ExactAt k = KernelAt globe.grid globe.angles.now (probe block_of).row h.args.km k
+  ExactAt k = KernelAt the_map.globe (probe block_of).row h.args.km k
 
   on_row : h.probe-p.result.row.0 ≡ (probe block_of).row.0
   on_row = ap (λ (x : Cell). x.row.0) h.probe-p.ensures
@@ -125,7 +125,7 @@ pub loop-word-init : goal.loop-word-init
 loop-word-init c =
     let shape = c.no_shape-one_shape in (
       sweep_start _ _ _ _ _ _ _ _ _ _ _ c.args.map.now.ready c.requires.chunk_words c.requires.can_sweep c.started-work.result (start_own _ _ _ c.started-work.result c.started-work.ensures),
-      kernel_own _ _ _ _ _ c.build-exact.ensures,
+      kernel_own _ _ _ _ c.build-exact.ensures,
       serves_none _ _ _ _ shape.result shape.ensures _,
       serves_none _ _ _ _ shape.result shape.ensures _,
     )
@@ -164,7 +164,7 @@ pub circle_population-population-requires : goal.circle_population-population-re
 circle_population-population-requires c =
     let h = (goal.at.circle_population-population-requires c).After-odd_columns in
     let exact : ExactAt h c.if-ne.exact =
-    elim c.if-ne.branch [ then-ne v ↦ kernel_kept _ _ c.probe-p.result.row _ c.if-ne.exact (v.exact-is ∙ v.build-exact-then-ne.ensures) (probe (block_of h)).row (on_row h) | else-ne v ↦ v.exact-is ∙ kernel_kept _ _ c.loop-word.exact.row _ c.loop-word.exact c.loop-word.invariant.1 (probe (block_of h)).row (same_row _ _ (sym c.ne.ensures ∙ v.if-ne.false) ∙ on_row h) ] in
+    elim c.if-ne.branch [ then-ne v ↦ kernel_kept _ c.probe-p.result.row _ c.if-ne.exact (v.exact-is ∙ v.build-exact-then-ne.ensures) (probe (block_of h)).row (on_row h) | else-ne v ↦ v.exact-is ∙ kernel_kept _ c.loop-word.exact.row _ c.loop-word.exact c.loop-word.invariant.1 (probe (block_of h)).row (same_row _ _ (sym c.ne.ensures ∙ v.if-ne.false) ∙ on_row h) ] in
     can_sum h _ c.if-ne.exact exact
 
 pub examined-work-requires : goal.examined-work-requires
@@ -214,19 +214,19 @@ loop-word-preserved c =
           )
     ] in
     let bound_is : j.bound ≡ population m j.wide (probe b) = wide.0.1 ∙ ap (λ (x : Float). population m x (probe b)) (sym wide.0.0) in
-    let exact : KernelAt (globe h).grid (globe h).angles.now c.if-asks.exact.row c.args.km c.if-asks.exact =
+    let exact : KernelAt m.globe c.if-asks.exact.row c.args.km c.if-asks.exact =
     elim c.if-asks.branch [
       | then-asks w ↦
           let e : ExactAt h w.if-ne.exact =
-          elim w.if-ne.branch [ then-ne v ↦ kernel_kept _ _ c.probe-p.result.row _ w.if-ne.exact (v.exact-is ∙ v.build-exact-then-ne.ensures) (probe (block_of h)).row (on_row h) | else-ne v ↦ v.exact-is ∙ kernel_kept _ _ c.loop-word.exact.row _ c.loop-word.exact c.loop-word.invariant.1 (probe (block_of h)).row (same_row _ _ (sym w.ne.ensures ∙ v.if-ne.false) ∙ on_row h) ] in
-          kernel_own _ _ (probe b).row _ c.if-asks.exact (w.exact-is ∙ e)
-      | else-asks w ↦ subst (λ (x : Kernel). KernelAt (globe h).grid (globe h).angles.now x.row c.args.km x) (sym w.exact-is) l.invariant.1
+          elim w.if-ne.branch [ then-ne v ↦ kernel_kept _ c.probe-p.result.row _ w.if-ne.exact (v.exact-is ∙ v.build-exact-then-ne.ensures) (probe (block_of h)).row (on_row h) | else-ne v ↦ v.exact-is ∙ kernel_kept _ c.loop-word.exact.row _ c.loop-word.exact c.loop-word.invariant.1 (probe (block_of h)).row (same_row _ _ (sym w.ne.ensures ∙ v.if-ne.false) ∙ on_row h) ] in
+          kernel_own _ (probe b).row _ c.if-asks.exact (w.exact-is ∙ e)
+      | else-asks w ↦ subst (λ (x : Kernel). KernelAt m.globe x.row c.args.km x) (sym w.exact-is) l.invariant.1
     ] in
     let people_is : s.result ≡ true → c.if-asks.population ≡ population m c.args.km (probe b) = λ yes.
     elim c.if-asks.branch [
       | then-asks w ↦
           let e : ExactAt h w.if-ne.exact =
-          elim w.if-ne.branch [ then-ne v ↦ kernel_kept _ _ c.probe-p.result.row _ w.if-ne.exact (v.exact-is ∙ v.build-exact-then-ne.ensures) (probe (block_of h)).row (on_row h) | else-ne v ↦ v.exact-is ∙ kernel_kept _ _ c.loop-word.exact.row _ c.loop-word.exact c.loop-word.invariant.1 (probe (block_of h)).row (same_row _ _ (sym w.ne.ensures ∙ v.if-ne.false) ∙ on_row h) ] in
+          elim w.if-ne.branch [ then-ne v ↦ kernel_kept _ c.probe-p.result.row _ w.if-ne.exact (v.exact-is ∙ v.build-exact-then-ne.ensures) (probe (block_of h)).row (on_row h) | else-ne v ↦ v.exact-is ∙ kernel_kept _ c.loop-word.exact.row _ c.loop-word.exact c.loop-word.invariant.1 (probe (block_of h)).row (same_row _ _ (sym w.ne.ensures ∙ v.if-ne.false) ∙ on_row h) ] in
           w.population-is ∙ w.circle_population-population.ensures ∙ people h _ w.if-ne.exact e
       | else-asks w ↦
           w.population-is ∙ bound_is
