@@ -15,7 +15,7 @@ fn first_level(grid: Grid, spacing: u32, current: &mut [u64], following: &mut [u
     ensures { FirstLevel grid spacing current.new result }
 {
     let n = pieces::tile(grid, spacing, following);
-    probe_order::insert_from(following, n, current);
+    probe_order::insert_from(&following[..n], current);
     n
 }
 
@@ -36,10 +36,10 @@ pub(crate) fn searched(
     // A level is known only from the one before it, and the last has no block: there is nothing to count by.
     while 0 < live {
         let best = found.held;
-        let level = sweep::level(map, current, live, km, best, following);
+        let level = sweep::level(map, &current[..live], km, best, following);
         found = search_rules::with_level(found, level);
         live = level.live;
-        probe_order::insert_from(following, live, current);
+        probe_order::insert_from(&following[..live], current);
     }
     found
 }
