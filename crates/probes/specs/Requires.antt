@@ -8,6 +8,7 @@ use Rattle.candidates.specs.declared.Candidate.{Candidate}
 use Rattle.tally.specs.State.{stats_weight}
 use Rattle.search_rules.specs.declared.MostPopulous.{MostPopulous}
 use Rattle.search_rules.specs.Requires.{TwoBuffers}
+use Rattle.search_rules.specs.declared.LevelBuffers.{LevelBuffers}
 use Rattle.ledger.specs.declared.Ledger.{Ledger}
 use Rattle.ledger.specs.Ledger.{ledger_in_order, places_free}
 use Rattle.ledger.specs.Requires.{InBounds}
@@ -34,8 +35,8 @@ pub record CanEvaluate (s : RunState) (f : MostPopulous) : Type 0 where
 -- ---- a run
 
 -- level buffers, the target and slack of a map, and a ledger that questions 11 and 12 let pass
-pub record CanRun (m : Map) (current following : List ℕ) (t : Target) (slack : Float) (people : ℕ) (l : Ledger) : Type 0 where
-  pub buffers : TwoBuffers m.globe.grid current following
+pub record CanRun (m : Map) (b : LevelBuffers) (t : Target) (slack : Float) (people : ℕ) (l : Ledger) : Type 0 where
+  pub buffers : TwoBuffers m.globe.grid b.current.now b.following.now
   pub target : t ≡ target_of t.share (total m)
   pub total_is : people ≡ total m
   pub slack_is : slack ≡ predicate_slack_persons m.globe.grid t.total

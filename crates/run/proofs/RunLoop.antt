@@ -1,7 +1,6 @@
 -- The loop of a run: what it keeps from probe to probe, and the answer where it ends.
 use Prim.Native.Nat.{ℕ, ◌+◌, ◌-◌, ◌<◌}
 use mathlib.Core.Path.{◌≡◌, refl, sym, ap, ◌∙◌}
-use mathlib.Core.List.{List}
 use mathlib.Core.Bool.{Bool, true, false, cond, true≢false}
 use native.Mathlib.Omega.{arith}
 use lib.Ieee.{Float}
@@ -19,6 +18,7 @@ use Rattle.tally.specs.Counts.{no_stats}
 use Rattle.levels.specs.declared.SummedMap.{SummedMap}
 use Rattle.levels.specs.State.{summed_lent}
 use Rattle.tally.specs.State.{stats_weight}
+use Rattle.search_rules.specs.declared.LevelBuffers.{LevelBuffers}
 use Rattle.search_rules.specs.declared.MostPopulous.{MostPopulous}
 use Rattle.search_rules.specs.Search.{search}
 use Rattle.ledger.specs.declared.Entry.{Entry}
@@ -167,8 +167,8 @@ module _ (m : Map) (spacing : Spacing) (persons slack : Float) (people : ℕ) (l
 
 -- ---- the loop's own terms
 
-module _ (map : SummedMap) {current following : List ℕ} {t : Target} {slack : Float} {people : ℕ} {l : Ledger}
-    (can : CanRun (summed_lent map) current following t slack people l) (spacing : Spacing) where
+module _ (map : SummedMap) {b : LevelBuffers} {t : Target} {slack : Float} {people : ℕ} {l : Ledger}
+    (can : CanRun (summed_lent map) b t slack people l) (spacing : Spacing) where
   -- the run of the loop
   abbrev pub Looping : Ledger → RunState → Bracket → Type 0
   Looping h s c = Running (summed_lent map) spacing t.persons slack people l h s c

@@ -10,21 +10,21 @@ use climb::Bracket;
 use ledger::Ledger;
 use levels::SummedMap;
 use probes::RunEnd;
+use search_rules::LevelBuffers;
 use share::Target;
 use spacing::Spacing;
 
 // The run from a ledger with room for every probe: where it ends, and the lent ledger with every circle that it searched.
 pub fn run(
     map: &SummedMap<'_>,
-    current: &mut [u64],
-    following: &mut [u64],
+    buffers: &mut LevelBuffers<'_>,
     spacing: Spacing,
     target: Target,
     slack: f64,
     total: u64,
     ledger: &mut Ledger,
 ) -> RunEnd
-    requires { CanRun (summed_lent map.now) current.old following.old target slack total ledger.old }
+    requires { CanRun (summed_lent map.now) buffers.old target slack total ledger.old }
     ensures { ran_with result ledger.new ≡ ran (summed_lent map.now) spacing target.share ledger.old }
 {
     let persons = target.persons;
@@ -35,7 +35,7 @@ pub fn run(
         match ledger_store::get(ledger, km) {
             Some(centre) => state = run_state::reused(persons, slack, state, km, centre),
             None => {
-                let found = search::search_at(map, current, following, km, spacing);
+                let found = search::search_at(map, buffers, km, spacing);
                 ledger_store::put(ledger, run_state::entry_of(km, found));
                 state = run_state::evaluated(persons, slack, state, km, found);
             }

@@ -9,7 +9,8 @@ use grid::Grid;
 use levels::SummedMap;
 use search_rules::SearchResult;
 
-// The grid's first blocks in probe order, and how many they are.
+// The grid's first blocks in probe order, and how many they are. Here and in `searched` the two buffers are lent one by one and not as
+// LevelBuffers: one is read while the other is written, and of a field that is read so the prover does not know the length afterwards.
 fn first_level(grid: Grid, spacing: u32, current: &mut [u64], following: &mut [u64]) -> usize
     requires { TwoBuffers grid current.old following.old }
     ensures { FirstLevel grid spacing current.new result }
