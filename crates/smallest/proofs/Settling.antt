@@ -50,7 +50,7 @@ module _ (map : SummedMap) {b : LevelBuffers} {l : Ledger} (can : CanSettle map.
   the_target : t ≡ target_of share (total (summed_lent map))
   the_target = q ∙ ap (target_of share) all_people
 
-  pub can_run : CanRun (summed_lent map) b t slack people l
+  pub can_run : CanRun (summed_lent map) b (record { target = t; slack = slack; total = people }) l
   can_run =
       record {
         buffers = can.buffers;

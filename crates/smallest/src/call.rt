@@ -15,6 +15,7 @@ use ledger::Ledger;
 use levels::SummedMap;
 use probes::Smallest;
 use search_rules::LevelBuffers;
+use share::Aim;
 use spacing::Spacing;
 use table::Table;
 
@@ -39,8 +40,13 @@ fn settle(
     let total = table.whole();
     let target = share::target_of(share, total);
     let slack = share::predicate_slack_persons(grid, target.total);
-    let end = run::run(map, buffers, spacing, target, slack, total, ledger);
-    run_end::conclude(grid, angles, target, slack, total, end)
+    let aim = Aim {
+        target,
+        slack,
+        total,
+    };
+    let end = run::run(map, buffers, spacing, aim, ledger);
+    run_end::conclude(grid, angles, aim, end)
 }
 
 // The first question of the call that is answered no.

@@ -37,7 +37,7 @@ next c =
     let h = c.loop-spacing in
     let a = c.args in
     let j = c.match-get in
-    let probed : ProbedTo (summed_lent a.map.now) a.spacing a.target.persons a.slack h.ledger h.state c.radius-km.result.0 j.ledger j.state =
+    let probed : ProbedTo (summed_lent a.map.now) a.spacing a.aim.target.persons a.aim.slack h.ledger h.state c.radius-km.result.0 j.ledger j.state =
     elim j.branch [
       | in-Some w ↦ after_reuse _ _ _ _ _ _ _ (sym c.get.ensures ∙ w.in-Some.is) w.ledger-is (w.state-is ∙ w.reused-state.ensures)
       | in-None w ↦

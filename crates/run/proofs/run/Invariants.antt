@@ -9,7 +9,7 @@ use Rattle.run.proofs.run.Given as goal
 
 abbrev pub invariant-loop-spacing : goal.invariant-loop-spacing
 invariant-loop-spacing l =
-    Running (summed_lent l.map) l.spacing l.persons l.slack l.total l.initial.ledger l.ledger l.state l.bracket
+    Running (summed_lent l.map) l.spacing l.aim.target.persons l.aim.slack l.aim.total l.initial.ledger l.ledger l.state l.bracket
     × TwoBuffers l.map.globe.grid l.buffers.current.now l.buffers.following.now
 
 abbrev pub decreases-loop-spacing : goal.decreases-loop-spacing
