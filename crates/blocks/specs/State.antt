@@ -1,5 +1,5 @@
 -- A block as a word of four 16-bit numbers, the form in which a level's buffer holds it, and what becomes of such a buffer.
-use Rattle.std.specs.Prelude.{ℕ, ◌+◌, ◌-◌, ◌*◌, ◌/◌, ◌%◌, ◌≡◌, Bool, List, length, take}
+use Rattle.std.specs.Prelude.{ℕ, ◌+◌, ◌-◌, ◌*◌, ◌/◌, ◌%◌, ◌≡◌, Bool, List, length}
 use Rattle.lists.specs.Lists.{each}
 use Rattle.lists.specs.Front.{onto, written_at}
 use Rattle.blocks.specs.declared.Block.{Block}
@@ -25,9 +25,9 @@ word_of b = b.north.0 % base + b.south.0 % base * base + b.first.0 % base * base
 unfoldable pub block_of : ℕ → Block
 block_of w = block (range (w % base) (w / base % base)) (range (w / base_squared % base) (w / base_cubed % base))
 
--- the blocks of a buffer's first n words
-unfoldable pub blocks_of : ℕ → List ℕ → List Block
-blocks_of n words = each block_of (take n words)
+-- the blocks of words
+unfoldable pub blocks_of : List ℕ → List Block
+blocks_of words = each block_of words
 
 -- at or before, by probe
 unfoldable pub words_by_probe : ℕ → ℕ → Bool

@@ -25,8 +25,3 @@ pub record CanSweep (g : Grid) (bs : List Block) (following : List ℕ) (live : 
   pub rectangles : AllOf (Rectangle g) bs
   pub narrow : total_of area bs ≤ most_cells
   pub room : live + total_of area bs ≤ length following
-
--- the words of a chunk are in the buffer
-pub record ChunkWords (current : List ℕ) (start end : ℕ) : Type 0 where
-  pub order : start ≤ end
-  pub words : end ≤ length current

@@ -1,5 +1,5 @@
 -- A level as the code carries it: the map by its sums, a chunk at work with its kernels, and the children in the other buffer.
-use Rattle.std.specs.Prelude.{ℕ, ◌/◌, ◌-◌, ◌≡◌, true, List, Float, take, drop, Option}
+use Rattle.std.specs.Prelude.{ℕ, ◌/◌, ◌≡◌, true, List, Float, Option}
 use Rattle.lists.specs.Lists.{each, concat_each}
 use Rattle.grid.specs.declared.Row.{Row}
 use Rattle.grid.specs.declared.Grid.{Grid}
@@ -8,7 +8,7 @@ use Rattle.sums.specs.State.{globe_map}
 use Rattle.kernel.specs.declared.Kernel.{Kernel}
 use Rattle.blocks.specs.declared.Block.{Block}
 use Rattle.blocks.specs.Block.{same_shape, Rectangle, split}
-use Rattle.blocks.specs.State.{word_of, block_of, Written}
+use Rattle.blocks.specs.State.{word_of, Written}
 use Rattle.bounds.specs.State.{wide_kernel}
 use Rattle.candidates.specs.declared.Candidate.{Candidate}
 use Rattle.candidates.specs.Candidate.{better_held}
@@ -39,10 +39,6 @@ started_work g km best =
     record { held = best; tally = tally (stats 0 0 0 0 2) 0 0; wide_row = middle_row; wide_km = km; exact_row = middle_row }
 
 -- ---- what a chunk or a level comes to
-
--- the blocks of a buffer's words from start up to end
-unfoldable pub blocks_from : ℕ → ℕ → List ℕ → List Block
-blocks_from start end words = each block_of (take (end - start) (drop start words))
 
 -- the blocks of the next level: the survivors' children
 abbrev pub children : Outcome → List Block

@@ -1,4 +1,5 @@
-// One level of a search: definitions and laws, and what a level comes to. Crate `sweep` goes through the blocks.
+// One level of a search: its definitions and their laws, the map that it reads, and what a chunk and a level come to. Crate `sweep` goes
+// through the blocks.
 #![tactic(auto)]
 
 ghost use Rattle.levels.specs.Requires.{Ready};

@@ -7,7 +7,7 @@ ghost use Rattle.most_populous.specs.Call.{buffers, buffers_fit, search_question
 
 use grid::{Grid, Map, RadiusKm, Refusal};
 use levels::SummedMap;
-use search_rules::MostPopulous;
+use search_rules::{LevelBuffers, MostPopulous};
 use spacing::Spacing;
 
 // Question 7: room for the sums, and a word for each cell in both level buffers.
@@ -66,5 +66,6 @@ pub fn most_populous(
     let globe = map.globe;
     sums_fill::fill_sums(globe.grid, map.counts, sums);
     let summed = SummedMap { globe, sums };
-    Ok(search::search_at(&summed, current, following, radius, spacing))
+    let mut buffers = LevelBuffers { current, following };
+    Ok(search::search_at(&summed, &mut buffers, radius, spacing))
 }

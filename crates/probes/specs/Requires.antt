@@ -8,11 +8,12 @@ use Rattle.candidates.specs.declared.Candidate.{Candidate}
 use Rattle.tally.specs.State.{stats_weight}
 use Rattle.search_rules.specs.declared.MostPopulous.{MostPopulous}
 use Rattle.search_rules.specs.Requires.{TwoBuffers}
+use Rattle.search_rules.specs.declared.LevelBuffers.{LevelBuffers}
 use Rattle.ledger.specs.declared.Ledger.{Ledger}
 use Rattle.ledger.specs.Ledger.{ledger_in_order, places_free}
 use Rattle.ledger.specs.Requires.{InBounds}
 use Rattle.climb.specs.Climb.{most_radii}
-use Rattle.share.specs.declared.Target.{Target}
+use Rattle.share.specs.declared.Aim.{Aim}
 use Rattle.share.specs.Target.{target_of, predicate_slack_persons}
 use Rattle.probes.specs.declared.RunState.{RunState}
 use Rattle.probes.specs.declared.RunEnd.{RunEnd}
@@ -33,12 +34,12 @@ pub record CanEvaluate (s : RunState) (f : MostPopulous) : Type 0 where
 
 -- ---- a run
 
--- level buffers, the target and slack of a map, and a ledger that questions 11 and 12 let pass
-pub record CanRun (m : Map) (current following : List ℕ) (t : Target) (slack : Float) (people : ℕ) (l : Ledger) : Type 0 where
-  pub buffers : TwoBuffers m.globe.grid current following
-  pub target : t ≡ target_of t.share (total m)
-  pub total_is : people ≡ total m
-  pub slack_is : slack ≡ predicate_slack_persons m.globe.grid t.total
+-- level buffers, the target and slack of a map's total, and a ledger that questions 11 and 12 let pass
+pub record CanRun (m : Map) (b : LevelBuffers) (a : Aim) (l : Ledger) : Type 0 where
+  pub buffers : TwoBuffers m.globe.grid b.current.now b.following.now
+  pub target : a.target ≡ target_of a.target.share (total m)
+  pub total_is : a.total ≡ total m
+  pub slack_is : a.slack ≡ predicate_slack_persons m.globe.grid a.target.total
   pub ledger : ledger_in_order m.globe.grid l ≡ true
   pub room : places_free l most_radii ≡ true
 

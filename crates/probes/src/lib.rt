@@ -47,7 +47,7 @@ pub struct Smallest {
 }
 
 // A run after some probes: whether the latest reached, what the lowest that reached found, the latest that fell short, the ambiguity and
-// the counts. The ledger is large and stands beside it.
+// the counts. The ledger is large and stands beside it. A flag and no Option: found holds a candidate whether the latest reached or not.
 #[derive(Clone, Copy)]
 pub struct RunState {
     pub reached: bool,
@@ -58,6 +58,8 @@ pub struct RunState {
 }
 
 // Where a run has ended: the lowest radius that reached, or the ceiling where all fell short, and what its answer is made of.
+// A flag and no enum: a radius and a centre are there either way, and the answer has both. The bracket and the RunState themselves hold more,
+// the bracket's high end and whether the latest probe reached, of which the definition of where a run ends knows nothing.
 #[derive(Clone, Copy)]
 pub struct RunEnd {
     pub radius_km: RadiusKm,

@@ -1,7 +1,6 @@
 -- The loop of a run: what it keeps from probe to probe, and the answer where it ends.
 use Prim.Native.Nat.{ℕ, ◌+◌, ◌-◌, ◌<◌}
 use mathlib.Core.Path.{◌≡◌, refl, sym, ap, ◌∙◌}
-use mathlib.Core.List.{List}
 use mathlib.Core.Bool.{Bool, true, false, cond, true≢false}
 use native.Mathlib.Omega.{arith}
 use lib.Ieee.{Float}
@@ -19,6 +18,7 @@ use Rattle.tally.specs.Counts.{no_stats}
 use Rattle.levels.specs.declared.SummedMap.{SummedMap}
 use Rattle.levels.specs.State.{summed_lent}
 use Rattle.tally.specs.State.{stats_weight}
+use Rattle.search_rules.specs.declared.LevelBuffers.{LevelBuffers}
 use Rattle.search_rules.specs.declared.MostPopulous.{MostPopulous}
 use Rattle.search_rules.specs.Search.{search}
 use Rattle.ledger.specs.declared.Entry.{Entry}
@@ -32,6 +32,7 @@ use Rattle.climb.specs.Climb.{most_radii, Ended, last_radius, climb, climb_radii
 use Rattle.climb.specs.State.{bracket_start, bracket_closed, next_radius, bracket_next}
 use Rattle.climb.proofs.Radii.{last_below, last_least, last_most}
 use Rattle.climb.proofs.NextRadii.{Stage, stage_start, stage_open, left, left_start, stage_next, left_reached, left_short}
+use Rattle.share.specs.declared.Aim.{Aim}
 use Rattle.share.specs.declared.Target.{Target}
 use Rattle.share.specs.Target.{reaches, predicate_slack_persons}
 use Rattle.probes.specs.declared.RunState.{RunState}
@@ -167,19 +168,19 @@ module _ (m : Map) (spacing : Spacing) (persons slack : Float) (people : ℕ) (l
 
 -- ---- the loop's own terms
 
-module _ (map : SummedMap) {current following : List ℕ} {t : Target} {slack : Float} {people : ℕ} {l : Ledger}
-    (can : CanRun (summed_lent map) current following t slack people l) (spacing : Spacing) where
+module _ (map : SummedMap) {b : LevelBuffers} {a : Aim} {l : Ledger}
+    (can : CanRun (summed_lent map) b a l) (spacing : Spacing) where
   -- the run of the loop
   abbrev pub Looping : Ledger → RunState → Bracket → Type 0
-  Looping h s c = Running (summed_lent map) spacing t.persons slack people l h s c
+  Looping h s c = Running (summed_lent map) spacing a.target.persons a.slack a.total l h s c
 
-  pub loop_starts : {s₀ : RunState} → s₀ ≡ run_begun people → {c₀ : Bracket} → c₀ ≡ bracket_start → Looping l s₀ c₀
+  pub loop_starts : {s₀ : RunState} → s₀ ≡ run_begun a.total → {c₀ : Bracket} → c₀ ≡ bracket_start → Looping l s₀ c₀
   loop_starts b e =
-      rw (e, b) (running_start (summed_lent map) spacing t.persons slack people l can.ledger can.room)
+      rw (e, b) (running_start (summed_lent map) spacing a.target.persons a.slack a.total l can.ledger can.room)
 
   module _ {h : Ledger} {s : RunState} {c : Bracket} (i : Looping h s c) (o : bracket_closed c ≡ false) where
     at : (next_radius c < ceiling map.globe.grid) × (probe_count s < most_radii)
-    at = running_open (summed_lent map) spacing t.persons slack people l h s c i o
+    at = running_open (summed_lent map) spacing a.target.persons a.slack a.total l h s c i o
 
     pub loop_reuses : (km : ℕ) {x : Candidate} → get h km ≡ Some x → CanNote s x
     loop_reuses km e = can_reuse i.order at.1 km e
@@ -194,21 +195,21 @@ module _ (map : SummedMap) {current following : List ℕ} {t : Target} {slack : 
     loop_fits = record { within = omega (arith, at.0, last_below map.globe.grid) }
 
     pub loop_goes_on : {km : ℕ} {h' : Ledger} {s' : RunState} {c' : Bracket} → km ≡ next_radius c
-        → ProbedTo (summed_lent map) spacing t.persons slack h s km h' s' → c' ≡ bracket_next (last_radius map.globe.grid) c s'.reached
+        → ProbedTo (summed_lent map) spacing a.target.persons a.slack h s km h' s' → c' ≡ bracket_next (last_radius map.globe.grid) c s'.reached
         → Looping h' s' c' × (probe_count s' ≡ probe_count s + 1)
     loop_goes_on {h' = h'} {s' = s'} {c' = c'} e f n =
-        running_next (summed_lent map) spacing t.persons slack people l h s c i o (ready_sound _ _ _ _ map.ready spacing (next_radius c))
+        running_next (summed_lent map) spacing a.target.persons a.slack a.total l h s c i o (ready_sound _ _ _ _ map.ready spacing (next_radius c))
         h' s' c' (rw (← e) f) n
 
     pub loop_falls : (s' : RunState) → probe_count s' ≡ probe_count s + 1 → most_radii - probe_count s' < most_radii - probe_count s
     loop_falls s' e = omega (arith, at.1)
 
   pub loop_ends : {h : Ledger} {s : RunState} {c : Bracket} → Looping h s c → bracket_closed c ≡ true → {e : RunEnd} → e ≡ end_from c s
-      → ran_with e h ≡ ran (summed_lent map) spacing t.share l
+      → ran_with e h ≡ ran (summed_lent map) spacing a.target.share l
   unfolding target_persons end_from
   loop_ends {h} {s} {c} i o f =
       let m = summed_lent map in
-      let persons : t.persons ≡ target_persons m t.share = ap (λ (x : Target). x.persons) can.target in
-      let all : t.total ≡ whole (total m) = ap (λ (x : Target). x.total) can.target in
-      let width : slack ≡ predicate_slack_persons map.globe.grid (whole (total m)) = rw (← all) can.slack_is in
-      rw f (running_end m spacing t.persons slack people l h s c i t.share persons width can.total_is o)
+      let persons : a.target.persons ≡ target_persons m a.target.share = ap (λ (x : Target). x.persons) can.target in
+      let all : a.target.total ≡ whole (total m) = ap (λ (x : Target). x.total) can.target in
+      let width : a.slack ≡ predicate_slack_persons map.globe.grid (whole (total m)) = rw (← all) can.slack_is in
+      rw f (running_end m spacing a.target.persons a.slack a.total l h s c i a.target.share persons width can.total_is o)

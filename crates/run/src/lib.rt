@@ -10,34 +10,31 @@ use climb::Bracket;
 use ledger::Ledger;
 use levels::SummedMap;
 use probes::RunEnd;
-use share::Target;
+use search_rules::LevelBuffers;
+use share::Aim;
 use spacing::Spacing;
 
 // The run from a ledger with room for every probe: where it ends, and the lent ledger with every circle that it searched.
 pub fn run(
     map: &SummedMap<'_>,
-    current: &mut [u64],
-    following: &mut [u64],
+    buffers: &mut LevelBuffers<'_>,
     spacing: Spacing,
-    target: Target,
-    slack: f64,
-    total: u64,
+    aim: Aim,
     ledger: &mut Ledger,
 ) -> RunEnd
-    requires { CanRun (summed_lent map.now) current.old following.old target slack total ledger.old }
-    ensures { ran_with result ledger.new ≡ ran (summed_lent map.now) spacing target.share ledger.old }
+    requires { CanRun (summed_lent map.now) buffers.old aim ledger.old }
+    ensures { ran_with result ledger.new ≡ ran (summed_lent map.now) spacing aim.target.share ledger.old }
 {
-    let persons = target.persons;
-    let mut state = run_state::begun(total);
+    let mut state = run_state::begun(aim.total);
     let mut bracket = Bracket::start();
     while !bracket.closed() {
         let km = bracket.radius();
         match ledger_store::get(ledger, km) {
-            Some(centre) => state = run_state::reused(persons, slack, state, km, centre),
+            Some(centre) => state = run_state::reused(aim, state, km, centre),
             None => {
-                let found = search::search_at(map, current, following, km, spacing);
+                let found = search::search_at(map, buffers, km, spacing);
                 ledger_store::put(ledger, run_state::entry_of(km, found));
-                state = run_state::evaluated(persons, slack, state, km, found);
+                state = run_state::evaluated(aim, state, km, found);
             }
         }
         bracket = bracket.next(map.globe.grid, state.reached);

@@ -11,7 +11,7 @@ ghost use Rattle.run_end.specs.State.{end_from};
 use climb::Bracket;
 use grid::Globe;
 use probes::{RunEnd, RunState, Smallest};
-use share::Target;
+use share::Aim;
 
 // The end of a run whose bracket is closed.
 #[tactic(auto, unfolding(crate::specs::State::end_from))]
@@ -44,18 +44,18 @@ fn covers(globe: &Globe<'_>, end: RunEnd) -> bool
 // The answer at the end of a run. The slack bounds how far rounding moves a population that is summed in binary64 row by row, as the original
 // sums it. It decides nothing: it tells which probes stand too close to the target to be sure of.
 #[tactic(auto, using(floats::proofs::Literals::literal_0), unfolding(probes::specs::State::answer_by))]
-pub fn conclude(globe: &Globe<'_>, target: Target, slack: f64, total: u64, end: RunEnd) -> Smallest
-    requires { CanConclude globe.now.grid globe.now.angles.now total end }
-    ensures { result ≡ answer_by (globe_lent globe.now) target slack total end }
+pub fn conclude(globe: &Globe<'_>, aim: Aim, end: RunEnd) -> Smallest
+    requires { CanConclude globe.now.grid globe.now.angles.now aim.total end }
+    ensures { result ≡ answer_by (globe_lent globe.now) aim.target aim.slack aim.total end }
 {
     Smallest {
         radius_km: end.radius_km,
         centre: end.centre,
-        target,
-        share_achieved: share::share_of(end.centre.population, total),
+        target: aim.target,
+        share_achieved: share::share_of(end.centre.population, aim.total),
         short_below: end.short_below,
         covers_whole_grid: covers(globe, end),
-        predicate_slack_persons: slack,
+        predicate_slack_persons: aim.slack,
         ambiguity: end.ambiguity,
         tolerance_persons: 0.0,
         stats: end.stats,

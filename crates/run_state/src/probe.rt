@@ -9,35 +9,24 @@ use grid::RadiusKm;
 use ledger::Entry;
 use probes::RunState;
 use search_rules::MostPopulous;
+use share::Aim;
 
 // A probe that an entry of the ledger answers.
-pub fn reused(
-    persons: f64,
-    slack: f64,
-    state: RunState,
-    km: RadiusKm,
-    centre: Candidate,
-) -> RunState
+pub fn reused(aim: Aim, state: RunState, km: RadiusKm, centre: Candidate) -> RunState
     requires { CanNote state centre }
-    ensures { result ≡ noted persons slack state km.0 centre (reused_more state.stats) }
+    ensures { result ≡ noted aim.target.persons aim.slack state km.0 centre (reused_more state.stats) }
 {
     let stats = crate::state::reused_more(state.stats);
-    crate::state::noted(persons, slack, state, km, centre, stats)
+    crate::state::noted(aim, state, km, centre, stats)
 }
 
 // A probe that searched.
-pub fn evaluated(
-    persons: f64,
-    slack: f64,
-    state: RunState,
-    km: RadiusKm,
-    found: MostPopulous,
-) -> RunState
+pub fn evaluated(aim: Aim, state: RunState, km: RadiusKm, found: MostPopulous) -> RunState
     requires { CanEvaluate state found }
-    ensures { result ≡ noted persons slack state km.0 found.centre (evaluated_more state.stats found.tally.stats) }
+    ensures { result ≡ noted aim.target.persons aim.slack state km.0 found.centre (evaluated_more state.stats found.tally.stats) }
 {
     let stats = crate::state::evaluated_more(state.stats, found.tally.stats);
-    crate::state::noted(persons, slack, state, km, found.centre, stats)
+    crate::state::noted(aim, state, km, found.centre, stats)
 }
 
 // The entry by which the ledger keeps a search.

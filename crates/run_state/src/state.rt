@@ -7,6 +7,7 @@ ghost use Rattle.probes.specs.State.{run_begun, reused_more, evaluated_more, sho
 use candidates::Candidate;
 use grid::{Cell, Col, RadiusKm, Row};
 use probes::{Ambiguity, RunState, SmallestStats, Witness};
+use share::Aim;
 use tally::SearchStats;
 
 // One radius more that the slack cannot separate from the target.
@@ -120,8 +121,7 @@ pub fn begun(total: u64) -> RunState
 // After a probe that found a centre; the counts are those after it.
 #[tactic(auto, unfolding(probes::specs::State::noted))]
 pub(crate) fn noted(
-    persons: f64,
-    slack: f64,
+    aim: Aim,
     state: RunState,
     km: RadiusKm,
     centre: Candidate,
@@ -129,10 +129,11 @@ pub(crate) fn noted(
 ) -> RunState
     requires population_bound { centre.population ≤ 2 ^ 53 }
     requires ambiguity_bound { radii_of state.ambiguity + 1 < 2 ^ 32 }
-    ensures { result ≡ noted persons slack state km.0 centre stats }
+    ensures { result ≡ noted aim.target.persons aim.slack state km.0 centre stats }
 {
+    let persons = aim.target.persons;
     let reached = share::reaches(persons, centre);
-    let within = share::within_slack(persons, slack, centre);
+    let within = share::within_slack(persons, aim.slack, centre);
     RunState {
         reached,
         found: found_after(reached, centre, state.found),

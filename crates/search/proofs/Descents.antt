@@ -7,6 +7,7 @@ use mathlib.Core.List.{List, [], ◌∷◌}
 use native.Mathlib.Omega.{arith}
 use lib.Ieee.{Float}
 use lib.ListN.{length, take}
+use lib.Seq.{length-take-le}
 use Rattle.lists.specs.Front.{onto}
 use Rattle.lists.specs.Lists.{each, sort}
 use Rattle.lists.proofs.Folds.{length_each}
@@ -22,7 +23,6 @@ use Rattle.blocks.specs.declared.Block.{Block}
 use Rattle.blocks.specs.Block.{area, by_probe, tile, Rectangle}
 use Rattle.blocks.specs.State.{word_of, blocks_of, words_by_probe, Tiled}
 use Rattle.blocks.specs.Requires.{Small}
-use Rattle.probe_order.specs.Requires.{CanTake}
 use Rattle.blocks.proofs.Tiles.{length_area, tile_rectangle, tile_room}
 use Rattle.blocks.proofs.Words.{rectangle_small, blocks_onto, blocks_written, blocks_sorted}
 use Rattle.tally.specs.declared.Tally.{Tally}
@@ -45,6 +45,13 @@ use Rattle.candidates.specs.declared.Candidate.{Candidate}
 -- the words of rectangles on a grid that question 1 lets pass
 words_small : (g : Grid) → Sizes g → {bs : List Block} → AllOf (Rectangle g) bs → AllOf Small bs
 words_small g s rs = all_map (λ b r. rectangle_small g (omega (arith, s.columns)) (omega (arith, s.rows)) b r) rs
+
+-- the blocks of the first n words, once these are put in order in the other buffer
+front_sorted : (n : ℕ) (src dst dst' : List ℕ) → n ≤ length src → dst' ≡ onto (sort words_by_probe (take n src)) dst
+    → blocks_of (take n dst') ≡ sort by_probe (blocks_of (take n src))
+front_sorted n src dst dst' h e =
+    ap (λ (l : List ℕ). blocks_of (take n l)) e ∙ ap (λ (k : ℕ). blocks_of (take k (onto (sort words_by_probe (take n src)) dst))) (sym (length-take-le n src h))
+    ∙ blocks_sorted (take n src) dst
 
 -- ---- the first level
 
@@ -69,16 +76,20 @@ module _ (g : Grid) (spacing : ℕ) (current following : List ℕ) (two : TwoBuf
     following_size =
         ap (length {A = ℕ}) tiled.words ∙ length_onto (each word_of tiles) following (omega (arith, length_each word_of tiles, first_tiles))
 
-    pub first_takes : CanTake n following' current
-    first_takes = record { words = omega (arith, number, following_size, first_tiles); room = omega (arith, number, tiles_few, two.current_room) }
+    pub first_words : n ≤ length following'
+    first_words = omega (arith, number, following_size, first_tiles)
+
+    pub first_fits : length (take n following') ≤ length current
+    first_fits = omega (arith, length-take-le n following' first_words, number, tiles_few, two.current_room)
 
     pub first_is : (current' : List ℕ) → current' ≡ onto (sort words_by_probe (take n following')) current → FirstLevel g spacing current' n
     first_is current' e =
         let small = words_small g first_sizes (tile_rectangle g spacing first_sizes.some_columns first_sizes.some_rows) in
-        let there : blocks_of n following' ≡ tiles = ap (λ (k : ℕ). blocks_of k following') number ∙ ap (blocks_of (length tiles)) tiled.words ∙ blocks_onto tiles following small in
+        let there : blocks_of (take n following') ≡ tiles =
+        ap (λ (k : ℕ). blocks_of (take k following')) number ∙ ap (λ (l : List ℕ). blocks_of (take (length tiles) l)) tiled.words ∙ blocks_onto tiles following small in
         record {
           number = number;
-          order = ap (blocks_of n) e ∙ blocks_sorted n following' current first_takes.words ∙ ap (sort by_probe) there;
+          order = front_sorted n following' current current' first_words e ∙ ap (sort by_probe) there;
         }
 
 -- ---- counts stay small
@@ -120,7 +131,7 @@ module _ (gr : Grid) (angles cosines : List Float) (sums : List ℕ) (km : Float
     pub left : List Block
     pub fuel : ℕ
     pub number : live ≡ length left
-    pub order : blocks_of live current ≡ sort by_probe left
+    pub order : blocks_of (take live current) ≡ sort by_probe left
     pub counted : Counted gr fuel found.tally left
     pub whole : levels fuel the_map km found left ≡ searched the_map km spacing
 
@@ -158,7 +169,7 @@ module _ (gr : Grid) (angles cosines : List Float) (sums : List ℕ) (km : Float
       pub descend_words : live ≤ length current
       descend_words = omega (arith, d.number, blocks_fit gr d.fuel found.tally d.left d.counted, d.current_room)
 
-      pub descend_sweeps : CanSweep gr (blocks_of live current) following 0
+      pub descend_sweeps : CanSweep gr (blocks_of (take live current)) following 0
       descend_sweeps =
           rw d.order
           (record {
@@ -167,12 +178,12 @@ module _ (gr : Grid) (angles cosines : List Float) (sums : List ℕ) (km : Float
             room = omega (arith, total_sort by_probe area d.left, area_few, d.following_room);
           })
 
-      module _ (some : 0 < live) (r : ChunkResult) (following' : List ℕ) (swept : Swept (level_in_order the_map km found.held (blocks_of live current)) following 0 following' r) where
+      module _ (some : 0 < live) (r : ChunkResult) (following' : List ℕ) (swept : Swept (level_in_order the_map km found.held (blocks_of (take live current))) following 0 following' r) where
         abbrev o : Outcome
         o = level the_map km found.held d.left
 
-        is : level_in_order the_map km found.held (blocks_of live current) ≡ o
-        is = level_sorted the_map km found.held d.left (blocks_of live current) d.order
+        is : level_in_order the_map km found.held (blocks_of (take live current)) ≡ o
+        is = level_sorted the_map km found.held d.left (blocks_of (take live current)) d.order
 
         outcome : Swept o following 0 following' r
         outcome = subst (λ (x : Outcome). Swept x following 0 following' r) is swept
@@ -212,8 +223,11 @@ module _ (gr : Grid) (angles cosines : List Float) (sums : List ℕ) (km : Float
         live_few = omega (arith, live_is, blocks_fit gr fewer (plus found.tally o.tally) (children o) counted_after)
 
         module _ (kept : length following' ≡ length following) where
-          pub descend_takes : CanTake r.live following' current
-          descend_takes = record { words = omega (arith, live_few, d.following_room); room = omega (arith, live_few, d.current_room) }
+          descend_front : r.live ≤ length following'
+          descend_front = omega (arith, live_few, d.following_room)
+
+          pub descend_fits : length (take r.live following') ≤ length current
+          descend_fits = omega (arith, length-take-le r.live following' descend_front, live_few, d.current_room)
 
           pub descend_less : gr.width + gr.height - (with_level found r).tally.stats.levels < gr.width + gr.height - found.tally.stats.levels
           unfolding with_level plus plus_stats
@@ -232,8 +246,8 @@ module _ (gr : Grid) (angles cosines : List Float) (sums : List ℕ) (km : Float
           descend_next current' same e =
               let small = words_small gr s (all_map (λ b x. x.rectangle) counted_after.small) in
               let k-is : r.live ≡ 0 + length (children o) = omega (arith, live_is) in
-              let there : blocks_of r.live following' ≡ children o =
-              ap (λ (k : ℕ). blocks_of k following') k-is ∙ ap (blocks_of (0 + length (children o))) outcome.written.words
+              let there : blocks_of (take r.live following') ≡ children o =
+              ap (λ (k : ℕ). blocks_of (take k following')) k-is ∙ ap (λ (l : List ℕ). blocks_of (take (0 + length (children o)) l)) outcome.written.words
               ∙ blocks_written 0 (children o) following small (omega arith) in
               record {
                 current_size = same ∙ d.current_size;
@@ -243,7 +257,7 @@ module _ (gr : Grid) (angles cosines : List Float) (sums : List ℕ) (km : Float
                 left = children o;
                 fuel = fewer;
                 number = live_is;
-                order = ap (blocks_of r.live) e ∙ blocks_sorted r.live following' current descend_takes.words ∙ ap (sort by_probe) there;
+                order = front_sorted r.live following' current current' descend_front e ∙ ap (sort by_probe) there;
                 counted = rw outcome.counts counted_after;
                 whole =
                     rw (outcome.counts, outcome.held)

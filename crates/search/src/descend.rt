@@ -9,13 +9,14 @@ use grid::Grid;
 use levels::SummedMap;
 use search_rules::SearchResult;
 
-// The grid's first blocks in probe order, and how many they are.
+// The grid's first blocks in probe order, and how many they are. Here and in `searched` the two buffers are lent one by one and not as
+// LevelBuffers: one is read while the other is written, and of a field that is read so the prover does not know the length afterwards.
 fn first_level(grid: Grid, spacing: u32, current: &mut [u64], following: &mut [u64]) -> usize
     requires { TwoBuffers grid current.old following.old }
     ensures { FirstLevel grid spacing current.new result }
 {
     let n = pieces::tile(grid, spacing, following);
-    probe_order::insert_from(following, n, current);
+    probe_order::insert_from(&following[..n], current);
     n
 }
 
@@ -36,10 +37,10 @@ pub(crate) fn searched(
     // A level is known only from the one before it, and the last has no block: there is nothing to count by.
     while 0 < live {
         let best = found.held;
-        let level = sweep::level(map, current, live, km, best, following);
+        let level = sweep::level(map, &current[..live], km, best, following);
         found = search_rules::with_level(found, level);
         live = level.live;
-        probe_order::insert_from(following, live, current);
+        probe_order::insert_from(&following[..live], current);
     }
     found
 }

@@ -7,19 +7,19 @@ ghost use Rattle.search_rules.specs.Requires.{TwoBuffers};
 use crate::descend;
 use grid::RadiusKm;
 use levels::SummedMap;
-use search_rules::MostPopulous;
+use search_rules::{LevelBuffers, MostPopulous};
 use spacing::Spacing;
 
 // The search of a map whose questions are answered and whose sums are filled; the level buffers are left as they come.
 pub fn search_at(
     map: &SummedMap<'_>,
-    current: &mut [u64],
-    following: &mut [u64],
+    buffers: &mut LevelBuffers<'_>,
     km: RadiusKm,
     spacing: Spacing,
 ) -> MostPopulous
-    requires { TwoBuffers map.now.globe.grid current.old following.old }
-    ensures { result ≡ search (summed_lent map.now) spacing km.0 }
+    requires { TwoBuffers map.now.globe.grid buffers.old.current.now buffers.old.following.now }
+    ensures room { TwoBuffers map.now.globe.grid buffers.new.current.now buffers.new.following.now }
+    ensures found { result ≡ search (summed_lent map.now) spacing km.0 }
 {
     if km.0 == 0 {
         let none = search_rules::nothing();
@@ -27,6 +27,6 @@ pub fn search_at(
     }
     let radius = km.0 as f64;
     let side = spacing::spacing_of(map.globe.grid, radius, spacing);
-    let found = descend::searched(map, radius, side, current, following);
+    let found = descend::searched(map, radius, side, buffers.current, buffers.following);
     search_rules::answer_of(found, km)
 }

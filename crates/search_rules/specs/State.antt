@@ -1,5 +1,5 @@
 -- A search as the code carries it: the first level in its buffer, and what a level adds.
-use Rattle.std.specs.Prelude.{ℕ, ◌≡◌, List, length}
+use Rattle.std.specs.Prelude.{ℕ, ◌≡◌, List, length, take}
 use Rattle.lists.specs.Lists.{sort}
 use Rattle.grid.specs.declared.Grid.{Grid}
 use Rattle.blocks.specs.Block.{tile, by_probe}
@@ -11,7 +11,7 @@ use Rattle.search_rules.specs.declared.SearchResult.{SearchResult}
 -- the first level's blocks, in probe order at the front of the buffer, and how many they are
 pub record FirstLevel (g : Grid) (spacing : ℕ) (current : List ℕ) (n : ℕ) : Type 0 where
   pub number : n ≡ length (tile g spacing)
-  pub order : blocks_of n current ≡ sort by_probe (tile g spacing)
+  pub order : blocks_of (take n current) ≡ sort by_probe (tile g spacing)
 
 -- what a level holds, and its counts added to those before
 unfoldable pub with_level : SearchResult → ChunkResult → SearchResult

@@ -30,6 +30,13 @@ pub struct MostPopulous {
     pub tally: Tally,
 }
 
+// The two buffers of a search's levels: one has the words of a level, in probe order, and into the other go their children's.
+#[derive(Drop)]
+pub struct LevelBuffers<'a> {
+    pub current: &'a mut [u64],
+    pub following: &'a mut [u64],
+}
+
 // Nothing held and nothing counted.
 #[tactic(auto, unfolding(tally::specs::Counts::no_tally, tally::specs::Counts::no_stats))]
 pub fn nothing() -> SearchResult

@@ -15,6 +15,14 @@ pub struct Target {
     pub total: f64,
 }
 
+// What a run aims at: the target, the slack of the comparison with it, and the total that both come from.
+#[derive(Clone, Copy)]
+pub struct Aim {
+    pub target: Target,
+    pub slack: f64,
+    pub total: u64,
+}
+
 // Question 9: a number above 0 and at most 1.
 pub fn share_in_range(share: f64) -> bool
     ensures { result ≡ share_in_range share }

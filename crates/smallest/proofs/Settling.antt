@@ -17,6 +17,7 @@ use Rattle.spacing.specs.declared.Spacing.{Spacing}
 use Rattle.levels.specs.declared.SummedMap.{SummedMap}
 use Rattle.levels.specs.Requires.{Ready}
 use Rattle.levels.specs.State.{summed_lent}
+use Rattle.search_rules.specs.declared.LevelBuffers.{LevelBuffers}
 use Rattle.most_populous.specs.Call.{Buffers}
 use Rattle.most_populous.proofs.SearchCalls as searching
 use Rattle.ledger.specs.declared.Ledger.{Ledger}
@@ -37,7 +38,7 @@ use Rattle.smallest_rules.proofs.SmallestCalls.{ledger_ordered, room_left}
 
 -- ---- from an accepted map with its sums filled to its answer
 
-module _ (map : SummedMap) {current following : List ℕ} {l : Ledger} (can : CanSettle map.globe.grid current following l) (spacing : Spacing)
+module _ (map : SummedMap) {b : LevelBuffers} {l : Ledger} (can : CanSettle map.globe.grid b l) (spacing : Spacing)
     {share : Float} {people : ℕ} (p : people ≡ total (table_map map.globe.grid map.sums.now)) {t : Target} (q : t ≡ target_of share people) {slack : Float}
     (k : slack ≡ predicate_slack_persons map.globe.grid t.total) where
   all_people : people ≡ total (summed_lent map)
@@ -49,7 +50,7 @@ module _ (map : SummedMap) {current following : List ℕ} {l : Ledger} (can : Ca
   the_target : t ≡ target_of share (total (summed_lent map))
   the_target = q ∙ ap (target_of share) all_people
 
-  pub can_run : CanRun (summed_lent map) current following t slack people l
+  pub can_run : CanRun (summed_lent map) b (record { target = t; slack = slack; total = people }) l
   can_run =
       record {
         buffers = can.buffers;
@@ -87,10 +88,10 @@ module _ (m : Map) (spacing : Spacing) (share : Float) (l : Ledger) (lent : Buff
   pub to_fill : Fillable m.globe.grid m.counts lent.sums
   to_fill = searching.to_fill m lent p.map (p.yes 7).0
 
-  pub to_settle : CanSettle m.globe.grid lent.current lent.following l
-  to_settle =
+  pub to_settle : (b : LevelBuffers) → b.current.now ≡ lent.current → b.following.now ≡ lent.following → CanSettle m.globe.grid b l
+  to_settle b e f =
       record {
-        buffers = searching.to_search m lent p.map (p.yes 7).0;
+        buffers = rw (e, f) (searching.to_search m lent p.map (p.yes 7).0);
         ledger = ledger_ordered m spacing share l lent p;
         room = room_left m spacing share l lent p;
       }

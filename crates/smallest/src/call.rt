@@ -14,19 +14,20 @@ use grid::{Map, Refusal};
 use ledger::Ledger;
 use levels::SummedMap;
 use probes::Smallest;
+use search_rules::LevelBuffers;
+use share::Aim;
 use spacing::Spacing;
 use table::Table;
 
 // The smallest radius of a map whose questions are answered and whose sums are filled.
 fn settle(
     map: &SummedMap<'_>,
-    current: &mut [u64],
-    following: &mut [u64],
+    buffers: &mut LevelBuffers<'_>,
     share: f64,
     spacing: Spacing,
     ledger: &mut Ledger,
 ) -> Smallest
-    requires { CanSettle map.now.globe.grid current.old following.old ledger.old }
+    requires { CanSettle map.now.globe.grid buffers.old ledger.old }
     ensures { IsSettled
         (smallest (summed_lent map.now) spacing share ledger.old)
         result ledger.new }
@@ -39,10 +40,13 @@ fn settle(
     let total = table.whole();
     let target = share::target_of(share, total);
     let slack = share::predicate_slack_persons(grid, target.total);
-    let end = run::run(
-        map, current, following, spacing, target, slack, total, ledger,
-    );
-    run_end::conclude(&map.globe, target, slack, total, end)
+    let aim = Aim {
+        target,
+        slack,
+        total,
+    };
+    let end = run::run(map, buffers, spacing, aim, ledger);
+    run_end::conclude(&map.globe, aim, end)
 }
 
 // The first question of the call that is answered no.
@@ -86,5 +90,6 @@ pub fn smallest_radius(
     let globe = map.globe;
     sums_fill::fill_sums(globe.grid, map.counts, sums);
     let summed = SummedMap { globe, sums };
-    Ok(settle(&summed, current, following, share, spacing, ledger))
+    let mut buffers = LevelBuffers { current, following };
+    Ok(settle(&summed, &mut buffers, share, spacing, ledger))
 }

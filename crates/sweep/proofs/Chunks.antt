@@ -6,8 +6,8 @@ use mathlib.Core.List.{List, [], ◌∷◌, ◌++◌, append-nil, append_assoc}
 use native.Mathlib.Omega.{arith}
 use native.Mathlib.Decide.{dec_lt}
 use lib.Ieee.{Float}
-use lib.ListN.{length, take, drop, length-append, drop_of_length-le}
-use lib.Seq.{take_at, drop_at, take_all}
+use lib.ListN.{length, take, drop, length-append, length-drop, drop_of_length-le}
+use lib.Seq.{take_at, drop_at, take_all, length-take-le}
 use Prim.Native.Nat.{max as greater}
 use Rattle.lists.specs.Counted.{max, div_ceil}
 use Rattle.lists.specs.Lists.{fold, each, concat_each, pieces}
@@ -26,12 +26,12 @@ use Rattle.levels.specs.declared.ChunkResult.{ChunkResult}
 use Rattle.levels.specs.Level.{chunk, chunks, joined, level_in_order}
 use Rattle.chunk_work.specs.Work.{Outcome}
 use Rattle.tally.specs.Counts.{stats, tally, plus}
-use Rattle.levels.specs.State.{summed_map, blocks_from, children, Swept, joined_results}
+use Rattle.levels.specs.State.{summed_map, children, Swept, joined_results}
 use Rattle.tally.specs.State.{weight, stats_weight}
-use Rattle.levels.specs.Requires.{most_cells, CanSweep, ChunkWords}
+use Rattle.levels.specs.Requires.{most_cells, CanSweep}
 use Rattle.levels.proofs.Rule.{begun, chunks_rule, chunks_enough, chunks_whole, all_of_concat}
 use Rattle.levels.proofs.Counts.{ended, Counts, counts_kept, next_fits}
-use Rattle.sweep.proofs.Spans.{span_none, span_cut, span_length, span_first}
+use Rattle.sweep.proofs.Spans.{blocks_length, blocks_cut, blocks_rest, blocks_front}
 use Rattle.sweep.proofs.Sweeps.{sofar_room, sofar_light, written_then, written_size, written_nothing}
 
 -- ---- a list cut into pieces
@@ -85,31 +85,35 @@ module _ (m : Map) (km : Float) (best : Option Candidate) where
 
 -- ---- the loop
 
-blocks_count : (current : List ℕ) (n : ℕ) → n ≤ length current → length (blocks_of n current) ≡ n
-blocks_count current n words = ap (length {A = Block}) (sym (span_first current n)) ∙ span_length current 0 n (omega arith) words ∙ (omega arith)
+pub blocks_few : (g : Grid) (words following : List ℕ) → CanSweep g (blocks_of words) following 0 → length words ≤ most_cells
+blocks_few g words following can = omega (arith, blocks_length words, length_area g can.rectangles, can.narrow)
 
-pub blocks_few : (g : Grid) (current : List ℕ) (n : ℕ) (following : List ℕ) → n ≤ length current → CanSweep g (blocks_of n current) following 0 → n ≤ most_cells
-blocks_few g current n following words can = omega (arith, blocks_count current n words, length_area g can.rectangles, can.narrow)
-
-module _ (gr : Grid) (angles cosines : List Float) (sums : List ℕ) (current : List ℕ) (n : ℕ) (km : Float) (best : Option Candidate) (following₀ : List ℕ) (size : ℕ) where
+module _ (gr : Grid) (angles cosines : List Float) (sums words : List ℕ) (km : Float) (best : Option Candidate) (following₀ : List ℕ) (size : ℕ) where
   abbrev the_map : Map
   the_map = summed_map gr angles cosines sums
 
+  abbrev n : ℕ
+  n = length words
+
   abbrev blocks : List Block
-  blocks = blocks_of n current
+  blocks = blocks_of words
+
+  no_words : (i : ℕ) → n ≤ i → blocks_of (drop i words) ≡ []
+  unfolding blocks_of each
+  no_words i h = ap blocks_of (drop_of_length-le words {i = i} h)
 
   pub record Leveling (following : List ℕ) (r : ChunkResult) (start : ℕ) : Type 0 where
     pub place : start ≤ n
     pub room : length following ≡ length following₀
     pub done : List (List Block)
     pub few : length done ≤ 4
-    pub cut : chunks blocks ≡ done ++ pieces (4 - length done) size (blocks_from start n current)
-    pub whole : concat_each (λ p. p) done ≡ blocks_from 0 start current
+    pub cut : chunks blocks ≡ done ++ pieces (4 - length done) size (blocks_of (drop start words))
+    pub whole : concat_each (λ p. p) done ≡ blocks_of (take start words)
     pub swept : Swept (joined_up the_map km best done) following₀ 0 following r
 
-  module _ (size_is : size ≡ div_ceil n (max 1 (min 4 n))) (words : n ≤ length current) (can : CanSweep gr blocks following₀ 0) where
+  module _ (size_is : size ≡ div_ceil n (max 1 (min 4 n))) (can : CanSweep gr blocks following₀ 0) where
     pub level_start : Leveling following₀ (record { held = best; tally = tally (stats 1 0 0 0 0) 0 0; live = 0 }) (min 0 n)
-    unfolding chunks fold each concat_each
+    unfolding chunks fold each concat_each blocks_of
     level_start =
         let none : min 0 n ≡ 0 = omega arith in
         rw none
@@ -118,8 +122,8 @@ module _ (gr : Grid) (angles cosines : List Float) (sums : List ℕ) (current : 
           room = refl;
           done = [];
           few = omega arith;
-          cut = rw (span_first current n, blocks_count current n words, ← size_is);
-          whole = sym (span_none current 0);
+          cut = rw (blocks_length words, ← size_is) refl;
+          whole = refl;
           swept = record { held = refl; counts = refl; written = written_nothing following₀ 0 };
         })
 
@@ -131,8 +135,8 @@ module _ (gr : Grid) (angles cosines : List Float) (sums : List ℕ) (current : 
       done_all : AllOf (Rectangle gr) (concat_each (λ p. p) s.done)
       done_all =
           rw s.whole
-          (all_left (blocks_from 0 start current) (blocks_from start n current)
-          (rw (sym (span_cut current 0 start n (omega arith) s.place) ∙ span_first current n) can.rectangles))
+          (all_left (blocks_of (take start words)) (blocks_of (drop start words))
+          (rw (blocks_cut words start) at can.rectangles))
 
       module _ (end : ℕ) (end_is : end ≡ min (start + size) n) where
         level_on : start < end
@@ -142,20 +146,19 @@ module _ (gr : Grid) (angles cosines : List Float) (sums : List ℕ) (current : 
         to = omega arith
 
         abbrev next : List Block
-        next = blocks_from start end current
+        next = blocks_of (take (end - start) (drop start words))
 
-        rest_is : blocks_from start n current ≡ next ++ blocks_from end n current
-        rest_is = span_cut current start end n (omega (arith, level_on)) to
+        rest_is : blocks_of (drop start words) ≡ next ++ blocks_of (drop end words)
+        rest_is = blocks_rest words start end (omega (arith, level_on))
 
         next_length : length next ≡ end - start
-        next_length = span_length current start end (omega (arith, level_on)) (omega arith)
+        next_length = blocks_length (take (end - start) (drop start words)) ∙ length-take-le (end - start) (drop start words) (omega (arith, length-drop start words))
 
-        parts : blocks ≡ blocks_from 0 start current ++ (next ++ blocks_from end n current)
-        parts =
-            sym (span_first current n) ∙ span_cut current 0 start n (omega arith) s.place ∙ ap (λ (x : List Block). blocks_from 0 start current ++ x) rest_is
+        parts : blocks ≡ blocks_of (take start words) ++ (next ++ blocks_of (drop end words))
+        parts = blocks_cut words start ∙ ap (λ (x : List Block). blocks_of (take start words) ++ x) rest_is
 
         next_all : AllOf (Rectangle gr) next
-        next_all = all_left next (blocks_from end n current) (all_right (blocks_from 0 start current) (rw parts at can.rectangles))
+        next_all = all_left next (blocks_of (drop end words)) (all_right (blocks_of (take start words)) (rw parts at can.rectangles))
 
         areas : total_of area (concat_each (λ p. p) s.done) + total_of area next ≤ total_of area blocks
         areas =
@@ -163,8 +166,8 @@ module _ (gr : Grid) (angles cosines : List Float) (sums : List ℕ) (current : 
               arith,
               ap (total_of area) s.whole,
               ap (total_of area) parts,
-              total_append area (blocks_from 0 start current) (next ++ blocks_from end n current),
-              total_append area next (blocks_from end n current),
+              total_append area (blocks_of (take start words)) (next ++ blocks_of (drop end words)),
+              total_append area next (blocks_of (drop end words)),
             )
 
         live_is : r.live ≡ length (children (joined_up the_map km best s.done))
@@ -173,8 +176,8 @@ module _ (gr : Grid) (angles cosines : List Float) (sums : List ℕ) (current : 
         live_few : r.live ≤ total_of area (concat_each (λ p. p) s.done)
         live_few = omega (arith, live_is, up_room the_map km best s.done done_all)
 
-        pub level_words : ChunkWords current start end
-        level_words = record { order = omega (arith, level_on); words = omega arith }
+        rest_length : length (blocks_of (drop start words)) ≡ n - start
+        rest_length = blocks_length (drop start words) ∙ length-drop start words
 
         pub level_sweeps : CanSweep gr next following r.live
         level_sweeps =
@@ -202,39 +205,37 @@ module _ (gr : Grid) (angles cosines : List Float) (sums : List ℕ) (current : 
             | no p ↦
                 let f : 4 - length s.done ≡ 0 = omega arith in
                 let all : chunks blocks ≡ s.done =
-                s.cut ∙ ap (λ (k : ℕ). s.done ++ pieces k size (blocks_from start n current)) f
-                ∙ ap (λ (x : List (List Block)). s.done ++ x) (pieces_out size (blocks_from start n current)) ∙ append-nil s.done in
-                let l : blocks ≡ blocks_from 0 start current = sym (chunks_whole blocks) ∙ ap (concat_each (λ p. p)) all ∙ s.whole in
-                absurd (omega (arith, ap (length {A = Block}) l, blocks_count current n words, span_length current 0 start (omega arith) (omega (arith, s.place))))
+                s.cut ∙ ap (λ (k : ℕ). s.done ++ pieces k size (blocks_of (drop start words))) f
+                ∙ ap (λ (x : List (List Block)). s.done ++ x) (pieces_out size (blocks_of (drop start words))) ∙ append-nil s.done in
+                let l : blocks ≡ blocks_of (take start words) = sym (chunks_whole blocks) ∙ ap (concat_each (λ p. p)) all ∙ s.whole in
+                absurd (omega (arith, ap (length {A = Block}) l, blocks_length words, blocks_length (take start words), length-take-le start words s.place))
           ]
 
           -- what is cut off next is the chunk at hand
-          front : take size (blocks_from start n current) ≡ next
+          front : take size (blocks_of (drop start words)) ≡ next
           front = elim (dec_lt (start + size) n) [
-            | yes p ↦ rw rest_is (take_at next (blocks_from end n current) size (omega (arith, next_length)))
+            | yes p ↦ rw rest_is (take_at next (blocks_of (drop end words)) size (omega (arith, next_length)))
             | no p ↦
-                let e : end ≡ n = omega arith in
-                take_all size (blocks_from start n current) (omega (arith, span_length current start n s.place words)) ∙ ap (λ (k : ℕ). blocks_from start k current) (sym e)
+                take_all size (blocks_of (drop start words)) (omega (arith, rest_length)) ∙ rest_is
+                ∙ ap (λ (x : List Block). next ++ x) (no_words end (omega arith)) ∙ append-nil next
           ]
 
-          back : drop size (blocks_from start n current) ≡ blocks_from end n current
+          back : drop size (blocks_of (drop start words)) ≡ blocks_of (drop end words)
           back = elim (dec_lt (start + size) n) [
-            | yes p ↦ rw rest_is (drop_at next (blocks_from end n current) size (omega (arith, next_length)))
+            | yes p ↦ rw rest_is (drop_at next (blocks_of (drop end words)) size (omega (arith, next_length)))
             | no p ↦
-                let e : end ≡ n = omega arith in
-                drop_of_length-le (blocks_from start n current) {i = size} (omega (arith, span_length current start n s.place words)) ∙ sym (span_none current n)
-                ∙ ap (λ (k : ℕ). blocks_from k n current) (sym e)
+                drop_of_length-le (blocks_of (drop start words)) {i = size} (omega (arith, rest_length)) ∙ sym (no_words end (omega arith))
           ]
 
-          cut_more : chunks blocks ≡ (s.done ++ next ∷ []) ++ pieces (4 - (length s.done + 1)) size (blocks_from end n current)
+          cut_more : chunks blocks ≡ (s.done ++ next ∷ []) ++ pieces (4 - (length s.done + 1)) size (blocks_of (drop end words))
           cut_more =
               let k = 4 - (length s.done + 1) in
               let f : 4 - length s.done ≡ suc k = omega (arith, three) in
-              s.cut ∙ ap (λ (x : ℕ). s.done ++ pieces x size (blocks_from start n current)) f
+              s.cut ∙ ap (λ (x : ℕ). s.done ++ pieces x size (blocks_of (drop start words))) f
               ∙ ap (λ (x : List (List Block)). s.done ++ x)
-              (pieces_more k size (blocks_from start n current) (omega (arith, span_length current start n s.place words))
-              ∙ ap (λ (x : List Block). x ∷ pieces k size (drop size (blocks_from start n current))) front ∙ ap (λ (x : List Block). next ∷ pieces k size x) back)
-              ∙ sym (append_assoc s.done (next ∷ []) (pieces k size (blocks_from end n current)))
+              (pieces_more k size (blocks_of (drop start words)) (omega (arith, rest_length))
+              ∙ ap (λ (x : List Block). x ∷ pieces k size (drop size (blocks_of (drop start words)))) front ∙ ap (λ (x : List Block). next ∷ pieces k size x) back)
+              ∙ sym (append_assoc s.done (next ∷ []) (pieces k size (blocks_of (drop end words))))
 
           abbrev before : Outcome
           before = joined_up the_map km best s.done
@@ -269,9 +270,9 @@ module _ (gr : Grid) (angles cosines : List Float) (sums : List ℕ) (current : 
                 room = written_size following following' r.live part.live new (omega (arith, words_fit, live_is, length_each word_of (children before), s.room)) swept.written ∙ s.room;
                 done = s.done ++ next ∷ [];
                 few = omega (arith, three, count);
-                cut = cut_more ∙ ap (λ (k : ℕ). (s.done ++ next ∷ []) ++ pieces (4 - k) size (blocks_from end n current)) (sym count);
+                cut = cut_more ∙ ap (λ (k : ℕ). (s.done ++ next ∷ []) ++ pieces (4 - k) size (blocks_of (drop end words))) (sym count);
                 whole =
-                    concat_snoc (λ p. p) s.done next ∙ ap (λ (x : List Block). x ++ next) s.whole ∙ sym (span_cut current 0 start end (omega arith) (omega (arith, level_on)));
+                    concat_snoc (λ p. p) s.done next ∙ ap (λ (x : List Block). x ++ next) s.whole ∙ sym (blocks_front words start end (omega (arith, level_on)));
                 swept = record {
                   held = rw more (ap₂ better_held s.swept.held swept.held);
                   counts = rw more (ap₂ plus s.swept.counts swept.counts);
@@ -285,9 +286,8 @@ module _ (gr : Grid) (angles cosines : List Float) (sums : List ℕ) (current : 
       pub level_done : n ≤ start → Swept (level_in_order the_map km best blocks) following₀ 0 following r
       unfolding level_in_order
       level_done h =
-          let e : min start n ≡ n = omega arith in
           let all : s.done ≡ chunks blocks =
           sym (append-nil s.done) ∙ ap (λ (x : List (List Block)). s.done ++ x)
-          (sym (pieces_none (4 - length s.done) size) ∙ ap (pieces (4 - length s.done) size) (sym (span_none current n) ∙ ap (λ (k : ℕ). blocks_from k n current) (sym e)))
+          (sym (pieces_none (4 - length s.done) size) ∙ ap (pieces (4 - length s.done) size) (sym (no_words (min start n) (omega arith))))
           ∙ sym s.cut in
           subst (λ (ps : List (List Block)). Swept (joined_up the_map km best ps) following₀ 0 following r) all s.swept

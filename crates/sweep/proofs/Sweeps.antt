@@ -5,9 +5,9 @@ use mathlib.Core.Path.{◌≡◌, refl, sym, ap, subst, ◌∙◌}
 use mathlib.Core.Bool.{Bool, true, false, cond}
 use mathlib.Core.List.{List, [], ◌∷◌, ◌++◌, append-nil}
 use native.Mathlib.Omega.{arith}
-use native.Mathlib.Nat.{add-zero}
 use lib.Ieee.{Float}
-use lib.ListN.{length, get_or, length-append}
+use lib.ListN.{length, take, drop, get_or, length-append}
+use lib.Seq.{take_all}
 use Rattle.lists.specs.Lists.{fold, each, concat_each}
 use Rattle.lists.proofs.Folds.{fold_append, each_append, length_each, concat_snoc}
 use Rattle.lists.specs.Elements.{AllOf, also, total_of}
@@ -19,21 +19,21 @@ use Rattle.grid.proofs.Sizes.{grid_sizes}
 use Rattle.reach.specs.Requires.{Sheet, OnSheet}
 use Rattle.blocks.specs.declared.Block.{Block}
 use Rattle.blocks.specs.Block.{area, split, Rectangle}
-use Rattle.blocks.specs.State.{word_of, block_of, Written}
+use Rattle.blocks.specs.State.{word_of, block_of, blocks_of, Written}
 use Rattle.pieces.specs.Requires.{CanSplit}
 use Rattle.blocks.proofs.Tiles.{length_area, split_rectangle, split_settled}
 use Rattle.levels.specs.Level.{examine, started, chunk}
 use Rattle.chunk_work.specs.Work.{Work}
-use Rattle.levels.specs.State.{summed_map, started_work, blocks_from, children, Swept}
+use Rattle.levels.specs.State.{summed_map, started_work, children, Swept}
 use Rattle.chunk_work.specs.State.{work_of}
 use Rattle.tally.specs.State.{weight, stats_weight}
 use Rattle.chunk_work.specs.declared.ChunkWork.{ChunkWork}
-use Rattle.levels.specs.Requires.{most_cells, Ready, CanSweep, ChunkWords}
+use Rattle.levels.specs.Requires.{most_cells, Ready, CanSweep}
 use Rattle.chunk_work.specs.Requires.{CanCount}
 use Rattle.levels.proofs.Rule.{fold_rule}
 use Rattle.levels.proofs.Counts.{ended, Counts, counts_kept, next_fits}
 use Rattle.levels.proofs.OneBlock.{block_small, can_count}
-use Rattle.sweep.proofs.Spans.{span_none, span_cut, span_more}
+use Rattle.sweep.proofs.Spans.{blocks_cut, blocks_more}
 use Rattle.candidates.specs.declared.Candidate.{Candidate}
 
 -- ---- what a chunk has come to
@@ -101,52 +101,40 @@ start_same m km best w e = ap (λ (x : ChunkWork). work_of x []) e
 
 -- ---- the loop
 
-module _ (g : Grid) (angles cosines : List Float) (sums : List ℕ) (current : List ℕ) (start end : ℕ) (km : Float) (best : Option Candidate) (following₀ : List ℕ) (live : ℕ) where
+module _ (g : Grid) (angles cosines : List Float) (sums words : List ℕ) (km : Float) (best : Option Candidate) (following₀ : List ℕ) (live : ℕ) where
   abbrev m : Map
   m = summed_map g angles cosines sums
 
   abbrev up_to : ℕ → Work
-  up_to i = sofar m km best (blocks_from start i current)
+  up_to i = sofar m km best (blocks_of (take i words))
 
   pub record Sweeping (following : List ℕ) (w : ChunkWork) (at i : ℕ) : Type 0 where
-    pub from : start ≤ i
-    pub to : i ≤ end
+    pub to : i ≤ length words
     pub size : length following ≡ length following₀
     pub same : work_of w (up_to i).outcome.survivors ≡ up_to i
     pub written : Written following₀ live (each word_of (children (up_to i).outcome)) following at
 
-  module _ (t : Ready g angles cosines sums) (words : ChunkWords current start end) (can : CanSweep g (blocks_from start end current) following₀ live) where
-    pub sweep_start : (w : ChunkWork) → w ≡ started_work g km best → Sweeping following₀ w live (start + 0)
-    unfolding fold each concat_each started
-    sweep_start w e =
-        let none_yet = sym (span_none current start) in
-        rw (add-zero start)
-        (record {
-          from = omega arith;
-          to = words.order;
-          size = refl;
-          same = subst (λ (bs : List Block). work_of w (sofar m km best bs).outcome.survivors ≡ sofar m km best bs) none_yet (start_same m km best w e);
-          written = subst (λ (bs : List Block). Written following₀ live (each word_of (children (sofar m km best bs).outcome)) following₀ live) none_yet (written_nothing following₀ live);
-        })
+  module _ (t : Ready g angles cosines sums) (can : CanSweep g (blocks_of words) following₀ live) where
+    pub sweep_start : (w : ChunkWork) → w ≡ started_work g km best → Sweeping following₀ w live 0
+    unfolding fold each concat_each started blocks_of
+    sweep_start w e = record { to = omega arith; size = refl; same = start_same m km best w e; written = written_nothing following₀ live }
 
     module _ (following : List ℕ) (w : ChunkWork) (at i : ℕ) (s : Sweeping following w at i) where
-      module _ (h : i < end) where
+      module _ (h : i < length words) where
         abbrev next : Block
-        next = block_of (get_or current i 0)
+        next = block_of (get_or words i 0)
 
         abbrev done : List Block
-        done = blocks_from start i current
+        done = blocks_of (take i words)
 
-        inside : i < length current
-        inside = omega (arith, words.words)
+        abbrev left : List Block
+        left = blocks_of (drop (i + 1) words)
 
-        parts : blocks_from start end current ≡ done ++ (next ∷ []) ++ blocks_from (i + 1) end current
-        parts =
-            span_cut current start (i + 1) end (omega (arith, s.from)) (omega arith)
-            ∙ ap (λ (x : List Block). x ++ blocks_from (i + 1) end current) (span_more current start i s.from inside)
+        parts : blocks_of words ≡ done ++ (next ∷ []) ++ left
+        parts = blocks_cut words (i + 1) ∙ ap (λ (x : List Block). x ++ left) (blocks_more words i h)
 
         all : AllOf (Rectangle g) (done ++ next ∷ [])
-        all = all_left (done ++ next ∷ []) (blocks_from (i + 1) end current) (rw parts at can.rectangles)
+        all = all_left (done ++ next ∷ []) left (rw parts at can.rectangles)
 
         done_all : AllOf (Rectangle g) done
         done_all = all_left done (next ∷ []) all
@@ -157,13 +145,13 @@ module _ (g : Grid) (angles cosines : List Float) (sums : List ℕ) (current : L
             only : {b : Block} → AllOf (Rectangle g) (b ∷ []) → Rectangle g b
             only (also r rs) = r
 
-        areas : total_of area done + area next ≤ total_of area (blocks_from start end current)
+        areas : total_of area done + area next ≤ total_of area (blocks_of words)
         unfolding total_of
         areas =
             omega (
               arith,
               ap (total_of area) parts,
-              total_append area (done ++ next ∷ []) (blocks_from (i + 1) end current),
+              total_append area (done ++ next ∷ []) left,
               total_append area done (next ∷ []),
             )
 
@@ -201,7 +189,7 @@ module _ (g : Grid) (angles cosines : List Float) (sums : List ℕ) (current : L
           after : work_of w' kept ≡ up_to (i + 1)
           after =
               seen (up_to i).outcome.survivors ∙ ap (λ (x : Work). examine m km x next) s.same
-              ∙ sym (ap (sofar m km best) (span_more current start i s.from inside) ∙ sofar_more m km best done next)
+              ∙ sym (ap (sofar m km best) (blocks_more words i h) ∙ sofar_more m km best done next)
 
           next_survivors : kept ≡ (up_to (i + 1)).outcome.survivors
           next_survivors = ap (λ (x : Work). x.outcome.survivors) after
@@ -220,7 +208,6 @@ module _ (g : Grid) (angles cosines : List Float) (sums : List ℕ) (current : L
               ∙ ap (each word_of) (sym (children_more survives (up_to i).outcome.survivors next) ∙ ap (concat_each split) next_survivors) in
               rw is
               (record {
-                from = omega (arith, s.from);
                 to = omega arith;
                 size = written_size following following' at at' new (omega (arith, sweep_room.room, few survives)) wrote ∙ s.size;
                 same = subst (λ (x : List Block). work_of w' x ≡ up_to (i + 1)) next_survivors after;
@@ -229,11 +216,11 @@ module _ (g : Grid) (angles cosines : List Float) (sums : List ℕ) (current : L
                     (written_then following₀ following following' live at at' old new (omega (arith, children_fit, few survives)) s.written wrote);
               })
 
-      pub sweep_done : end ≤ i → Swept (chunk m km best (blocks_from start end current)) following₀ live following (record { held = w.held; tally = w.tally; live = at })
+      pub sweep_done : length words ≤ i → Swept (chunk m km best (blocks_of words)) following₀ live following (record { held = w.held; tally = w.tally; live = at })
       unfolding chunk
       sweep_done h =
-          let e : i ≡ end = omega (arith, s.to) in
-          rw (← e)
+          let e : take i words ≡ words = take_all i words h in
+          rw (← ap (λ (x : List ℕ). chunk m km best (blocks_of x)) e)
           (record {
             held = ap (λ (x : Work). x.outcome.held) s.same;
             counts = ap (λ (x : Work). x.outcome.tally) s.same;

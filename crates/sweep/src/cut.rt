@@ -1,5 +1,5 @@
 // A level: its words in chunks for four workers, and the chunks' results joined in order.
-ghost use Rattle.std.specs.Prelude.{◌≡◌, ◌+◌, ◌≤◌, ◌^◌, length};
+ghost use Rattle.std.specs.Prelude.{◌≡◌, ◌+◌, ◌≤◌, ◌^◌};
 ghost use Rattle.blocks.specs.State.{blocks_of};
 ghost use Rattle.levels.specs.Level.{level_in_order};
 ghost use Rattle.tally.specs.Counts.{stats, tally};
@@ -38,30 +38,29 @@ fn joined(a: ChunkResult, b: ChunkResult) -> ChunkResult
     }
 }
 
-// A level's blocks, in probe order at the front of current, chunk by chunk; their children are left at the front of following. Each chunk
-// starts from what was held when the level began, never from what the chunk before it found: chunks side by side do not know of each
-// other, and a better circle from there would prune blocks that the original evaluates.
+// A level's blocks, their words in probe order, chunk by chunk; their children are left at the front of following. Each chunk starts from
+// what was held when the level began, never from what the chunk before it found: chunks side by side do not know of each other, and a
+// better circle from there would prune blocks that the original evaluates.
 pub fn level(
     map: &SummedMap<'_>,
-    current: &[u64],
-    n: usize,
+    words: &[u64],
     km: f64,
     best: Option<Candidate>,
     following: &mut [u64],
 ) -> ChunkResult
-    requires n_in_bounds { n ≤ length current.now }
-    requires can_sweep { CanSweep map.now.globe.grid (blocks_of n current.now) following.old 0 }
+    requires { CanSweep map.now.globe.grid (blocks_of words.now) following.old 0 }
     ensures { Swept
-        (level_in_order (summed_lent map.now) km best (blocks_of n current.now))
+        (level_in_order (summed_lent map.now) km best (blocks_of words.now))
         following.old 0 following.new result }
 {
+    let n = words.len();
     let size = chunk_work::chunk_size(n);
     let mut done = begun(best);
     // No blocks have chunks of no size, which nothing can step by.
     for start in (0..n).step_by(size.max(1)) {
         let end = chunk_work::chunk_end(start, size, n);
         let live = done.live;
-        let part = sweep::chunk(map, current, start, end, km, best, following, live);
+        let part = sweep::chunk(map, &words[start..end], km, best, following, live);
         done = joined(done, part);
     }
     done

@@ -2,11 +2,11 @@
 ghost use Rattle.std.specs.Prelude.{◌≡◌, cond, []};
 ghost use Rattle.lists.specs.Lists.{each};
 ghost use Rattle.blocks.specs.Block.{split};
-ghost use Rattle.blocks.specs.State.{word_of, Written};
+ghost use Rattle.blocks.specs.State.{word_of, blocks_of, Written};
 ghost use Rattle.pieces.specs.Requires.{CanSplit};
 ghost use Rattle.levels.specs.Level.{chunk};
-ghost use Rattle.levels.specs.State.{summed_lent, started_work, blocks_from, Swept};
-ghost use Rattle.levels.specs.Requires.{CanSweep, ChunkWords};
+ghost use Rattle.levels.specs.State.{summed_lent, started_work, Swept};
+ghost use Rattle.levels.specs.Requires.{CanSweep};
 
 use blocks::Block;
 use candidates::Candidate;
@@ -56,23 +56,20 @@ fn result_of(work: ChunkWork, live: usize) -> ChunkResult
     }
 }
 
-// The blocks of the words from start up to end, examined in turn. Three kernels stay in place from block to block, two wide ones and an
-// exact one, and are built anew only where a block needs another: a wide one where the block has another shape, the exact one where its
-// probe stands on another row.
+// The blocks of the words, examined in turn. Three kernels stay in place from block to block, two wide ones and an exact one, and are
+// built anew only where a block needs another: a wide one where the block has another shape, the exact one where its probe stands on
+// another row.
 pub(crate) fn chunk(
     map: &SummedMap<'_>,
-    current: &[u64],
-    start: usize,
-    end: usize,
+    words: &[u64],
     km: f64,
     best: Option<Candidate>,
     following: &mut [u64],
     live: usize,
 ) -> ChunkResult
-    requires chunk_words { ChunkWords current.now start end }
-    requires can_sweep { CanSweep map.now.globe.grid (blocks_from start end current.now) following.old live }
+    requires { CanSweep map.now.globe.grid (blocks_of words.now) following.old live }
     ensures { Swept
-        (chunk (summed_lent map.now) km best (blocks_from start end current.now))
+        (chunk (summed_lent map.now) km best (blocks_of words.now))
         following.old live following.new result }
 {
     let grid = map.globe.grid;
@@ -87,7 +84,7 @@ pub(crate) fn chunk(
     let mut two_shape = one_shape;
     let mut work = started(grid, km, best);
     let mut at = live;
-    for word in &current[start..end] {
+    for word in words {
         let block = Block::from(*word);
         let p = blocks::probe(block);
         let mut wide = km;

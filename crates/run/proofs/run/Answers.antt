@@ -1,7 +1,8 @@
 -- `run::run`: a turn opens the bracket, its probe is reused or searched, and the next bracket is one probe on.
-use mathlib.Core.Path.{◌≡◌, refl, sym, ◌∙◌}
+use mathlib.Core.Path.{◌≡◌, sym, ◌∙◌}
 use Prim.Native.Nat.{◌+◌}
 use Rattle.levels.specs.State.{summed_lent}
+use Rattle.search_rules.specs.Requires.{TwoBuffers}
 use Rattle.probes.specs.State.{probe_count}
 use Rattle.probes.proofs.Probes.{ProbedTo, after_reuse, after_search}
 use Rattle.run.proofs.RunLoop.{Looping, loop_starts, loop_reuses, loop_puts, loop_evaluates, loop_fits, loop_goes_on, loop_falls, loop_ends}
@@ -9,7 +10,7 @@ use Rattle.run.proofs.run.Goals as goal
 use Rattle.run.proofs.run.Goals.{After-next-bracket, in-Some, in-None}
 
 pub loop-spacing-init : goal.loop-spacing-init
-loop-spacing-init c = (loop_starts c.args.map.now c.requires c.args.spacing c.begun-state.ensures c.start-bracket.ensures, refl, refl)
+loop-spacing-init c = (loop_starts c.args.map.now c.requires c.args.spacing c.begun-state.ensures c.start-bracket.ensures, c.requires.buffers)
 
 pub reused-state-requires : goal.reused-state-requires
 reused-state-requires c =
@@ -23,7 +24,7 @@ put-requires c =
 pub evaluated-state-requires : goal.evaluated-state-requires
 evaluated-state-requires c =
     loop_evaluates c.args.map.now c.requires c.args.spacing c.loop-spacing.invariant.0 (sym c.closed.ensures ∙ c.loop-spacing-test.true) c.radius-km.result.0
-    c.search_at-found.ensures
+    c.search_at-found.ensures.found
 
 pub next-bracket-requires : goal.next-bracket-requires
 next-bracket-requires c = loop_fits c.args.map.now c.requires c.args.spacing c.loop-spacing.invariant.0 (sym c.closed.ensures ∙ c.loop-spacing-test.true)
@@ -36,11 +37,11 @@ next c =
     let h = c.loop-spacing in
     let a = c.args in
     let j = c.match-get in
-    let probed : ProbedTo (summed_lent a.map.now) a.spacing a.target.persons a.slack h.ledger h.state c.radius-km.result.0 j.ledger j.state =
+    let probed : ProbedTo (summed_lent a.map.now) a.spacing a.aim.target.persons a.aim.slack h.ledger h.state c.radius-km.result.0 j.ledger j.state =
     elim j.branch [
       | in-Some w ↦ after_reuse _ _ _ _ _ _ _ (sym c.get.ensures ∙ w.in-Some.is) w.ledger-is (w.state-is ∙ w.reused-state.ensures)
       | in-None w ↦
-          after_search _ _ _ _ _ _ _ (sym c.get.ensures ∙ w.in-None.is) w.search_at-found.ensures w.entry_of.ensures (w.ledger-is ∙ w.put.ensures)
+          after_search _ _ _ _ _ _ _ (sym c.get.ensures ∙ w.in-None.is) w.search_at-found.ensures.found w.entry_of.ensures (w.ledger-is ∙ w.put.ensures)
           (w.state-is ∙ w.evaluated-state.ensures)
     ] in
     loop_goes_on c.args.map.now c.requires a.spacing h.invariant.0 (sym c.closed.ensures ∙ c.loop-spacing-test.true) c.radius-km.ensures probed c.next-bracket.ensures
@@ -52,9 +53,9 @@ loop-spacing-smaller c =
 
 pub loop-spacing-preserved : goal.loop-spacing-preserved
 loop-spacing-preserved c =
-    let inv = c.loop-spacing.invariant in
-    let kept = c.match-get.auto in
-    ((next (goal.at.loop-spacing-preserved c).After-next-bracket).0, kept.current ∙ inv.1, kept.following ∙ inv.2)
+    let room : TwoBuffers c.args.map.now.globe.grid c.match-get.buffers.current.now c.match-get.buffers.following.now =
+    elim c.match-get.branch [ in-Some w ↦ rw w.buffers-is c.loop-spacing.invariant.1 | in-None w ↦ rw w.buffers-is w.search_at-found.ensures.room ] in
+    ((next (goal.at.loop-spacing-preserved c).After-next-bracket).0, room)
 
 pub returns : goal.returns
 returns c = loop_ends c.args.map.now c.requires c.args.spacing c.loop-spacing.invariant.0 (sym c.closed.ensures ∙ c.loop-spacing-test.false) c.end_of.ensures

@@ -1,8 +1,7 @@
 -- Invariant: what is left from the bracket is the whole run, and state and ledger track the probes made; each probe is one of the most radii.
 use Prim.Native.Nat.{◌-◌}
-use mathlib.Core.Path.{◌≡◌}
-use lib.ListN.{length}
 use Rattle.levels.specs.State.{summed_lent}
+use Rattle.search_rules.specs.Requires.{TwoBuffers}
 use Rattle.climb.specs.Climb.{most_radii}
 use Rattle.probes.specs.State.{probe_count}
 use Rattle.run.proofs.RunLoop.{Running}
@@ -10,8 +9,8 @@ use Rattle.run.proofs.run.Given as goal
 
 abbrev pub invariant-loop-spacing : goal.invariant-loop-spacing
 invariant-loop-spacing l =
-    Running (summed_lent l.map) l.spacing l.persons l.slack l.total l.initial.ledger l.ledger l.state l.bracket
-    × (length l.current ≡ length l.initial.current) × (length l.following ≡ length l.initial.following)
+    Running (summed_lent l.map) l.spacing l.aim.target.persons l.aim.slack l.aim.total l.initial.ledger l.ledger l.state l.bracket
+    × TwoBuffers l.map.globe.grid l.buffers.current.now l.buffers.following.now
 
 abbrev pub decreases-loop-spacing : goal.decreases-loop-spacing
 decreases-loop-spacing l = most_radii - probe_count l.state

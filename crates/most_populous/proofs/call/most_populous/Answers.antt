@@ -44,5 +44,5 @@ returns c =
     let found = c.search_at in
     let p = passed r in
     search_answered _ _ _ _ found.result _ _ _ (left r).0
-    (found.ensures ∙ searched_map _ _ p.map (p.yes 7).0 _ c.fill_sums.ensures.filled _ _ _ (left r).1)
-    (c.fill_sums.ensures.filled ∙ bare_filled (given r) _) found.auto.current found.auto.following
+    (found.ensures.found ∙ searched_map _ _ p.map (p.yes 7).0 _ c.fill_sums.ensures.filled _ _ _ (left r).1)
+    (c.fill_sums.ensures.filled ∙ bare_filled (given r) _) (search rules) (search rules)

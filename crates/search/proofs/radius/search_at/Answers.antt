@@ -3,13 +3,13 @@ use mathlib.Core.Path.{◌∙◌}
 use Rattle.search_rules.proofs.Search.{search_none, search_found}
 use Rattle.search.proofs.radius.search_at.Goals as goal
 
-pub returns-then-km-eq0 : goal.returns-then-km-eq0
-returns-then-km-eq0 c =
+pub returns-then-km-eq0-clause-found : goal.returns-then-km-eq0-clause-found
+returns-then-km-eq0-clause-found c =
     let a = c.args in
     c.answer_of.ensures ∙ search_none _ a.spacing a.km.0 c.nothing-none.result c.if-km-eq0.true c.nothing-none.ensures
 
-pub returns : goal.returns
-returns c =
+pub returns-clause-found : goal.returns-clause-found
+returns-clause-found c =
     let a = c.args in
     c.answer_of-2.ensures ∙ search_found _ a.spacing a.km.0 c.spacing_of-side.result c.searched-found.result c.if-km-eq0.false c.spacing_of-side.ensures
     c.searched-found.ensures

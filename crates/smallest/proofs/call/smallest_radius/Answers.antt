@@ -1,5 +1,5 @@
 -- `smallest::call::smallest_radius`: refused with nothing written, or accepted, filled and settled.
-use Rattle.std.proofs.Common.{rules, ◌≡◌, ◌∙◌}
+use Rattle.std.proofs.Common.{rules, ◌≡◌, refl, ◌∙◌}
 use Rattle.grid.specs.Answer.{first_no, shown}
 use Rattle.grid.specs.Map.{Map, map_lent}
 use Rattle.grid.proofs.Answers.{PassedCall, decided_yes}
@@ -37,11 +37,11 @@ invariant_of-summed c =
     record { ready = to_lend _ _ _ _ _ (passed (goal.at.invariant_of-summed c).In_ok-smallest_asked) _ c.fill_sums.ensures.filled c.fill_sums.ensures.small }
 
 pub settle-requires : goal.settle-requires
-settle-requires c = to_settle _ _ _ _ _ (passed (goal.at.settle-requires c).In_ok-smallest_asked)
+settle-requires c = to_settle _ _ _ _ _ (passed (goal.at.settle-requires c).In_ok-smallest_asked) _ refl refl
 
 pub returns : goal.returns
 returns c =
     let e = (goal.at.returns c).In_ok-smallest_asked in
     let f = c.fill_sums in
     smallest_answered _ _ _ _ _ c.settle.result _ _ _ _ (none_left e) (settled_map _ _ _ _ _ (passed e) _ f.ensures.filled c.settle.ensures)
-    (f.ensures.filled ∙ bare_filled (given e) _) c.settle.auto.current c.settle.auto.following
+    (f.ensures.filled ∙ bare_filled (given e) _) (search rules) (search rules)

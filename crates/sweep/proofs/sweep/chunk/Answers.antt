@@ -4,7 +4,7 @@ use mathlib.Core.Path.{◌≡◌, sym, ap, subst, ◌∙◌}
 use mathlib.Core.Bool.{true, false, cond, not}
 use mathlib.Core.List.{List, [], ◌∷◌, ◌++◌}
 use mathlib.Core.Logic.{◌⊎◌, inl, inr}
-use Prim.Native.Nat.{ℕ, ◌+◌, ◌<◌}
+use Prim.Native.Nat.{ℕ, ◌<◌}
 use lib.Ieee.{Float, eq}
 use Rattle.grid.specs.declared.Cell.{Cell}
 use Rattle.grid.specs.Map.{Map}
@@ -25,7 +25,7 @@ use Rattle.bounds.specs.State.{wide_kernel}
 use Rattle.bounds.specs.Requires.{CanWiden}
 use Rattle.levels.specs.Level.{examine, chunk}
 use Rattle.levels.specs.Requires.{Ready}
-use Rattle.levels.specs.State.{blocks_from, Swept, summed_lent, Serves}
+use Rattle.levels.specs.State.{Swept, summed_lent, Serves}
 use Rattle.chunk_work.specs.State.{work_of}
 use Rattle.pieces.specs.Requires.{CanSplit}
 use Rattle.chunk_work.specs.declared.ChunkWork.{ChunkWork}
@@ -37,8 +37,7 @@ use Rattle.std.proofs.Common.{arith}
 use Rattle.std.proofs.lemmas.Bool.Decides.{nat_tests}
 use lib.Dec.{eqb}
 use lib.ListN.{get_or}
-use Rattle.sweep.proofs.Spans.{word_in, word_at, word_past}
-use Rattle.blocks.specs.State.{block_of as of_word}
+use Rattle.blocks.specs.State.{blocks_of, block_of as of_word}
 use Rattle.sweep.proofs.sweep.chunk.Goals as goal
 use Rattle.candidates.specs.declared.Candidate.{Candidate}
 use Rattle.sweep.proofs.sweep.chunk.Goals.{After-odd_columns, then-odd_columns, else-odd_columns, then-not-same_shape, else-not-same_shape, then-not-same_shape-2, else-not-same_shape-2, then-asks, else-asks, then-ne, else-ne}
@@ -61,18 +60,14 @@ module _ (h : After-odd_columns) where
   abbrev block_of : Block
   block_of = h.from-block.result
 
-  place : h.args.start + h.loop-word.word-index < h.args.end
-  place = word_in _ _ _ _ h.requires.chunk_words.order h.requires.chunk_words.words h.loop-word-test.true
-
-  word : h.from-block.result ≡ of_word (get_or h.args.current.now (h.args.start + h.loop-word.word-index) 0)
-  word = h.from-block.ensures ∙ ap of_word (word_at _ _ _ _ h.requires.chunk_words.order h.requires.chunk_words.words h.loop-word-test.true)
+  word : h.from-block.result ≡ of_word (get_or h.args.words.now h.loop-word.word-index 0)
+  word = h.from-block.ensures
 
   rectangle : Rectangle globe.grid block_of
   rectangle =
       let l = h.loop-word in
-      let q = h.requires in
       subst (Rectangle globe.grid) (sym word)
-      (next_rectangle _ _ _ _ _ _ _ _ _ _ _ ready q.chunk_words q.can_sweep l.following l.work l.at _ l.invariant.0 place)
+      (next_rectangle _ _ _ _ _ _ _ _ _ ready h.requires l.following l.work l.at _ l.invariant.0 h.loop-word-test.true)
 
   can_widen : CanWiden globe.grid globe.angles.now globe.cosines.now block_of
   can_widen = record { sheet = ready_sheet _ _ _ _ ready; complete = ready_cosines _ _ _ _ ready; rectangle = rectangle }
@@ -124,7 +119,7 @@ build-exact-requires c = middle_on _ _ (ready_sheet _ _ _ _ c.args.map.now.ready
 pub loop-word-init : goal.loop-word-init
 loop-word-init c =
     let shape = c.no_shape-one_shape in (
-      sweep_start _ _ _ _ _ _ _ _ _ _ _ c.args.map.now.ready c.requires.chunk_words c.requires.can_sweep c.started-work.result (start_own _ _ _ c.started-work.result c.started-work.ensures),
+      sweep_start _ _ _ _ _ _ _ _ _ c.args.map.now.ready c.requires c.started-work.result (start_own _ _ _ c.started-work.result c.started-work.ensures),
       kernel_own _ _ _ _ c.build-exact.ensures,
       serves_none _ _ _ _ shape.result shape.ensures _,
       serves_none _ _ _ _ shape.result shape.ensures _,
@@ -172,21 +167,20 @@ examined-work-requires c =
     let l = c.loop-word in
     let h = (goal.at.examined-work-requires c).After-odd_columns in
     subst (CanCount l.work) (sym (word h))
-    (sweep_counts _ _ _ _ _ _ _ _ _ _ _ (ready h) c.requires.chunk_words c.requires.can_sweep l.following l.work l.at _ l.invariant.0 (place h))
+    (sweep_counts _ _ _ _ _ _ _ _ _ (ready h) c.requires l.following l.work l.at _ l.invariant.0 c.loop-word-test.true)
 
 pub write_children-at-requires : goal.write_children-at-requires
 write_children-at-requires c =
     let l = c.loop-word in
     let h = (goal.at.write_children-at-requires c).After-odd_columns in
     subst (λ (x : Block). CanSplit x l.following l.at) (sym (word h))
-    (sweep_room _ _ _ _ _ _ _ _ _ _ _ (ready h) c.requires.chunk_words c.requires.can_sweep l.following l.work l.at _ l.invariant.0 (place h))
+    (sweep_room _ _ _ _ _ _ _ _ _ (ready h) c.requires l.following l.work l.at _ l.invariant.0 c.loop-word-test.true)
 
 -- the exact kernel stays that of its row, and the block's work is the definition's
 pub loop-word-preserved : goal.loop-word-preserved
 loop-word-preserved c =
     let h = (goal.at.loop-word-preserved c).After-odd_columns in
     let l = c.loop-word in
-    let q = c.requires in
     let j = c.if-odd_columns in
     let m = the_map h in
     let b = block_of h in
@@ -235,8 +229,8 @@ loop-word-preserved c =
     let seen : (bs : List Block) → work_of c.examined-work.result (cond s.result (bs ++ b ∷ []) bs) ≡ examine m c.args.km (work_of l.work bs) b = λ bs.
     ap (λ (x : ChunkWork). work_of x (cond s.result (bs ++ b ∷ []) bs)) c.examined-work.ensures
     ∙ examined_is m c.args.km l.work b _ wide.0.0 _ bound_is s.result s.ensures c.if-asks.population people_is bs in (
-      sweep_next _ _ _ _ _ _ _ _ _ _ _ (ready h) q.chunk_words q.can_sweep l.following l.work l.at _ l.invariant.0
-          (place h) c.examined-work.result s.result
+      sweep_next _ _ _ _ _ _ _ _ _ (ready h) c.requires l.following l.work l.at _ l.invariant.0
+          c.loop-word-test.true c.examined-work.result s.result
           (subst (λ (x : Block). (bs : List Block) → work_of c.examined-work.result (cond s.result (bs ++ x ∷ []) bs) ≡ examine m c.args.km (work_of l.work bs) x) (word h) seen)
           _ wrote.result (rw (word h) at wrote.ensures) _ (omega arith),
       exact,
@@ -247,11 +241,10 @@ loop-word-preserved c =
 pub returns : goal.returns
 returns c =
     let l = c.loop-word in
-    let q = c.requires in
     let a = c.args in
     let done =
-    subst (λ (x : Option Candidate). Swept (chunk (summed_lent a.map.now) a.km x (blocks_from a.start a.end a.current.now)) a.following.now a.live l.following
+    subst (λ (x : Option Candidate). Swept (chunk (summed_lent a.map.now) a.km x (blocks_of a.words.now)) a.following.now a.live l.following
     (record { held = l.work.held; tally = l.work.tally; live = l.at }))
     (start_held _ _ _ c.started-work.result c.started-work.ensures)
-    (sweep_done _ _ _ _ _ _ _ _ _ _ _ a.map.now.ready q.chunk_words q.can_sweep l.following l.work l.at _ l.invariant.0 (word_past _ _ _ _ q.chunk_words.order q.chunk_words.words c.loop-word-test.false)) in
+    (sweep_done _ _ _ _ _ _ _ _ _ a.map.now.ready c.requires l.following l.work l.at _ l.invariant.0 c.loop-word-test.false) in
     rw c.result_of.ensures done
