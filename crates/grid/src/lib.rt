@@ -116,7 +116,8 @@ impl Grid {
     // How many angles the sheet has of a centre row and a row: one for each column distance.
     #[tactic(auto, unfolding(crate::specs::Grid::closing))]
     pub fn offsets(self) -> usize
-        ensures { result ≡ closing self + 1 }
+        ensures number { result ≡ closing self + 1 }
+        ensures small { result < 2 ^ 32 }
     {
         self.columns() / 2 + 1
     }
