@@ -13,20 +13,20 @@ within c =
     omega (arith, corner_place (table_map t.grid t.sums.now) c.args.row c.args.col c.requires.row c.requires.col, t.summed.room)
 
 pub slice_bounds-words-count : goal.slice_bounds-words-count
-slice_bounds-words-count c = rw c.columns-stride.ensures.number (omega (arith, within (goal.at.slice_bounds-words-count c).Start))
+slice_bounds-words-count c = omega (arith, within (goal.at.slice_bounds-words-count c).Start)
 
 pub slice_bounds-words-start : goal.slice_bounds-words-start
-slice_bounds-words-start c = rw c.columns-stride.ensures.number (omega (arith, within (goal.at.slice_bounds-words-start c).Start))
+slice_bounds-words-start c = omega (arith, within (goal.at.slice_bounds-words-start c).Start)
 
 pub bounds-words-col : goal.bounds-words-col
 bounds-words-col c =
     let t = c.args.self in
     let from = c.args.row * (t.grid.width + 1) in
-    rw (c.columns-stride.ensures.number, take_rest t.sums.now from, length-drop from t.sums.now) (omega (arith, within (goal.at.bounds-words-col c).Start))
+    rw (take_rest t.sums.now from, length-drop from t.sums.now) (omega (arith, within (goal.at.bounds-words-col c).Start))
 
 pub returns : goal.returns
 returns c =
     let t = c.args.self in
     let from = c.args.row * (t.grid.width + 1) in
-    rw (c.columns-stride.ensures.number, take_rest t.sums.now from, get_or-drop from t.sums.now c.args.col 0)
+    rw (take_rest t.sums.now from, get_or-drop from t.sums.now c.args.col 0)
     (corner_read (table_map t.grid t.sums.now) t.sums.now t.sums.now c.args.row c.args.col t.summed.words c.requires.row c.requires.col)
