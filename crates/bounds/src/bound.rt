@@ -33,13 +33,13 @@ pub fn slack_km(globe: &Globe<'_>, block: Block) -> f64
     let Globe { grid, cosines, .. } = *globe;
     let p = blocks::probe(block);
     let row = p.row;
-    let at = row.0 as usize;
+    let at = usize::from(row);
     let lat = grid.centre_lat(row);
     let north = floats::abs(grid.centre_lat(block.north) - lat);
     let south = floats::abs(grid.centre_lat(block.south) - lat);
     let delta_lat = floats::greater(north, south);
     let farther = (p.col.0 - block.first.0).max(block.last.0 - p.col.0);
-    let delta_lon = farther as f64 * floats::abs(grid.lon_step);
+    let delta_lon = f64::from(farther) * floats::abs(grid.lon_step);
     let hops = delta_lat * RADIAN + delta_lon * RADIAN * cosines[at];
     grid::arc_km(grid, hops) * slack_margin()
 }

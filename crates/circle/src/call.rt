@@ -16,7 +16,7 @@ pub fn circle(map: &Map<'_>, sums: &mut [u64], km: u32, centre: Cell) -> Result<
     let grid = map.globe.grid;
     let counts = map.counts;
     sums_fill::fill_sums(grid, counts, sums);
-    let kernel = kernel::build(&map.globe, centre.row, radius.0 as f64);
+    let kernel = kernel::build(&map.globe, centre.row, f64::from(radius.0));
     let table = Table { grid, sums };
     Ok(kernel_sums::circle_population(table, &kernel, centre.col))
 }

@@ -10,7 +10,7 @@ use std::alloc::{AllocError, Global};
 use std::io;
 use std::io::Read;
 
-// A byte more than a job may have, so that a longer one is told from it.
+// A byte more than a job may have, so that a longer one is told from it. By `as`: no From leads from usize to u64.
 fn input_buffer<R: Read + Drop>(alloc: Global, reader: R) -> io::Result<Vec<u8>>
     ensures { IfOk result (λ v. IfSome (R.remaining reader) (λ xs. v.items ≡ take (most_bytes + 1) xs)) }
 {

@@ -25,10 +25,10 @@ pub fn search_words(found: MostPopulous) -> [u64; 10]
     let tally = found.tally;
     let stats = tally.stats;
     [
-        centre.row.0 as u64,
-        centre.col.0 as u64,
+        u64::from(centre.row.0),
+        u64::from(centre.col.0),
         centre.population,
-        stats.levels as u64,
+        u64::from(stats.levels),
         stats.blocks_examined,
         stats.blocks_pruned,
         stats.circles_evaluated,

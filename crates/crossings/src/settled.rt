@@ -10,7 +10,7 @@ fn short_words(below: Option<Witness>) -> [u64; 3]
     ensures { result ≡ short_words below }
 {
     match below {
-        Some(short) => [1, short.km.0 as u64, short.population],
+        Some(short) => [1, u64::from(short.km.0), short.population],
         None => [0, 0, 0],
     }
 }
@@ -22,9 +22,9 @@ fn ambiguity_words(ambiguity: Option<Ambiguity>) -> [u64; 4]
     match ambiguity {
         Some(within) => [
             1,
-            within.lowest_km.0 as u64,
-            within.highest_km.0 as u64,
-            within.radii as u64,
+            u64::from(within.lowest_km.0),
+            u64::from(within.highest_km.0),
+            u64::from(within.radii),
         ],
         None => [0, 0, 0, 0],
     }
@@ -42,21 +42,21 @@ pub fn smallest_words(found: Smallest) -> [u64; 19]
     let short = short_words(below);
     let ambiguity = ambiguity_words(within);
     [
-        found.radius_km.0 as u64,
-        centre.row.0 as u64,
-        centre.col.0 as u64,
+        u64::from(found.radius_km.0),
+        u64::from(centre.row.0),
+        u64::from(centre.col.0),
         centre.population,
         short[0],
         short[1],
         short[2],
-        found.covers_whole_grid as u64,
+        u64::from(found.covers_whole_grid),
         ambiguity[0],
         ambiguity[1],
         ambiguity[2],
         ambiguity[3],
         counts.radii_evaluated,
         counts.radii_reused,
-        stats.levels as u64,
+        u64::from(stats.levels),
         stats.blocks_examined,
         stats.blocks_pruned,
         stats.circles_evaluated,

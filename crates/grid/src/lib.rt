@@ -4,8 +4,8 @@
 mod places;
 mod refusal;
 
-ghost use Rattle.std.specs.Prelude.{◌≡◌};
-ghost use Rattle.grid.specs.Grid.{row_found, col_found, radius_found, centre_lat};
+ghost use Rattle.std.specs.Prelude.{◌≡◌, ◌+◌, ◌<◌, ◌^◌};
+ghost use Rattle.grid.specs.Grid.{row_found, col_found, radius_found, centre_lat, closing};
 
 pub use places::{
     HALF_TURN, angle_of, arc_km, before, body_radius, ceiling, cells, closing, on_grid, sheet_index,
@@ -13,9 +13,9 @@ pub use places::{
 pub use refusal::Refusal;
 
 // The most columns and the most rows that question 1 admits.
-pub const MOST_COLUMNS: u32 = 180;
+pub const MOST_COLUMNS: usize = 180;
 
-pub const MOST_ROWS: u32 = 90;
+pub const MOST_ROWS: usize = 90;
 
 // A row and a column by number: types of their own, so that neither serves as the other.
 #[derive(Clone, Copy, PartialEq, Eq, PartialOrd, Ord)]
@@ -23,6 +23,23 @@ pub struct Row(pub u32);
 
 #[derive(Clone, Copy, PartialEq, Eq, PartialOrd, Ord)]
 pub struct Col(pub u32);
+
+// By `as`, and so are the sizes of a grid below: no From leads from u32 to usize. Each fits, and those who index write no cast.
+impl From<Row> for usize {
+    ghost from_gives = { λ row index. index ≡ row.0 };
+
+    fn from(row: Row) -> usize {
+        row.0 as usize
+    }
+}
+
+impl From<Col> for usize {
+    ghost from_gives = { λ col index. index ≡ col.0 };
+
+    fn from(col: Col) -> usize {
+        col.0 as usize
+    }
+}
 
 #[derive(Clone, Copy, PartialEq, Eq, PartialOrd, Ord)]
 pub struct Cell {
@@ -80,6 +97,31 @@ impl RadiusKm {
 }
 
 impl Grid {
+    // How many columns there are, as lengths and indices are counted. That it has 32 bits is said for those who are lent the grid.
+    pub fn columns(self) -> usize
+        ensures number { result ≡ self.width }
+        ensures small { result < 2 ^ 32 }
+    {
+        self.width as usize
+    }
+
+    // How many rows.
+    pub fn rows(self) -> usize
+        ensures number { result ≡ self.height }
+        ensures small { result < 2 ^ 32 }
+    {
+        self.height as usize
+    }
+
+    // How many angles the sheet has of a centre row and a row: one for each column distance.
+    #[tactic(auto, unfolding(crate::specs::Grid::closing))]
+    pub fn offsets(self) -> usize
+        ensures number { result ≡ closing self + 1 }
+        ensures small { result < 2 ^ 32 }
+    {
+        self.columns() / 2 + 1
+    }
+
     // The row of a number, where the grid has it.
     #[tactic(auto, unfolding(crate::specs::Grid::row_found))]
     pub fn row(self, index: u32) -> Option<Row>
@@ -109,6 +151,6 @@ impl Grid {
     pub fn centre_lat(self, row: Row) -> f64
         ensures { result ≡ centre_lat self row }
     {
-        self.origin_lat + (row.0 as f64 + 0.5) * self.lat_step
+        self.origin_lat + (f64::from(row.0) + 0.5) * self.lat_step
     }
 }

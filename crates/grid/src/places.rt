@@ -51,10 +51,10 @@ pub fn on_grid(grid: Grid, cell: Cell) -> bool
 
 // How many cells the grid has.
 #[tactic(auto, unfolding(crate::specs::Grid::cells))]
-pub fn cells(grid: Grid) -> u64
+pub fn cells(grid: Grid) -> usize
     ensures { result ≡ cells grid }
 {
-    grid.width as u64 * grid.height as u64
+    grid.columns() * grid.rows()
 }
 
 // Whether x stands before y by row, then column: of cells alike in everything else the first is taken.
@@ -79,7 +79,6 @@ pub fn sheet_index(grid: Grid, centre: Row, row: Row, offset: u32) -> usize
     requires { InSheet grid centre row offset }
     ensures { result ≡ sheet_index grid centre row offset }
 {
-    let height = grid.height as usize;
-    let offsets = grid.width as usize / 2 + 1;
-    (centre.0 as usize * height + row.0 as usize) * offsets + offset as usize
+    // The offset by `as`: it is a number of 32 bits and no type of its own, so no From leads to usize.
+    (usize::from(centre) * grid.rows() + usize::from(row)) * grid.offsets() + offset as usize
 }

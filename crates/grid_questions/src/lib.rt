@@ -17,7 +17,8 @@ const ROUNDING: f64 = 1e-9;
 pub fn sizes_in_range(grid: Grid) -> bool
     ensures { result ≡ sizes_in_range grid }
 {
-    (1..=grid::MOST_COLUMNS).contains(&grid.width) && (1..=grid::MOST_ROWS).contains(&grid.height)
+    (1..=grid::MOST_COLUMNS).contains(&grid.columns())
+        && (1..=grid::MOST_ROWS).contains(&grid.rows())
 }
 
 // Within 90 degrees of the equator.

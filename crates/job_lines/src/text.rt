@@ -73,7 +73,7 @@ fn end_line(line: Line) -> Line
 pub fn refused_line(refusal: Refusal) -> Line
     ensures { result ≡ line_of (refused_line (refusal_number refusal)) }
 {
-    end_line(begin_line(b"refused", &[refusal.number() as u64]))
+    end_line(begin_line(b"refused", &[u64::from(refusal.number())]))
 }
 
 // The line of an M: "most", the radius, the centre with its population, and the counts of the work.
@@ -84,11 +84,11 @@ pub fn most_line(found: MostPopulous) -> Line
     let tally = found.tally;
     let stats = tally.stats;
     let numbers = [
-        found.radius.0 as u64,
-        centre.row.0 as u64,
-        centre.col.0 as u64,
+        u64::from(found.radius.0),
+        u64::from(centre.row.0),
+        u64::from(centre.col.0),
         centre.population,
-        stats.levels as u64,
+        u64::from(stats.levels),
         stats.blocks_examined,
         stats.blocks_pruned,
         stats.circles_evaluated,
@@ -106,7 +106,7 @@ fn add_short(line: Line, short: Option<Witness>) -> Line
     ensures { result ≡ longer line (short_fields short) }
 {
     match short {
-        Some(short) => add_fields(line, &[short.km.0 as u64, short.population]),
+        Some(short) => add_fields(line, &[u64::from(short.km.0), short.population]),
         None => append(line, b" - -"),
     }
 }
@@ -118,9 +118,9 @@ pub fn least_line(found: Smallest) -> Line
     let centre = found.centre;
     let stats = found.stats;
     let first = [
-        found.radius_km.0 as u64,
-        centre.row.0 as u64,
-        centre.col.0 as u64,
+        u64::from(found.radius_km.0),
+        u64::from(centre.row.0),
+        u64::from(centre.col.0),
         centre.population,
     ];
     let last = [stats.radii_evaluated, stats.radii_reused];

@@ -11,26 +11,25 @@ use grid::{Cell, Grid, Row};
 fn count_places(grid: Grid) -> usize
     ensures { result ≡ min (cells grid) job_cells }
 {
-    (grid::cells(grid) as usize).min(CELLS)
+    grid::cells(grid).min(CELLS)
 }
 
 // Of the angles.
 fn angle_places(grid: Grid) -> usize
     ensures { result ≡ min (angle_count grid) job_angles }
 {
-    let height = grid.height as usize;
-    let pairs = height * height;
+    let pairs = grid.rows() * grid.rows();
     if ANGLES <= pairs {
         return ANGLES;
     }
-    (pairs * (grid::closing(grid) as usize + 1)).min(ANGLES)
+    (pairs * grid.offsets()).min(ANGLES)
 }
 
 // Of the cosines.
 fn cosine_places(grid: Grid) -> usize
     ensures { result ≡ min grid.height job_rows }
 {
-    grid.height.min(ROWS) as usize
+    grid.rows().min(ROWS)
 }
 
 // How many places of each array the map takes.
@@ -49,7 +48,7 @@ pub fn places_of(grid: Grid) -> Places
 pub fn count_place(grid: Grid, cell: Cell) -> usize
     ensures { result ≡ cell.row.0 * grid.width + cell.col.0 }
 {
-    cell.row.0 as usize * grid.width as usize + cell.col.0 as usize
+    usize::from(cell.row) * grid.columns() + usize::from(cell.col)
 }
 
 // The place in the sheet, or the array's length for any place beyond it.
@@ -57,9 +56,10 @@ pub fn count_place(grid: Grid, cell: Cell) -> usize
 pub fn angle_place(grid: Grid, centre: Row, row: Row, offset: u32) -> usize
     ensures { result ≡ min (sheet_index grid centre row offset) job_angles }
 {
-    let pair = centre.0 as usize * grid.height as usize + row.0 as usize;
+    let pair = usize::from(centre) * grid.rows() + usize::from(row);
     if ANGLES <= pair {
         return ANGLES;
     }
-    (pair * (grid::closing(grid) as usize + 1) + offset as usize).min(ANGLES)
+    // The offset by `as`: no From leads from u32 to usize.
+    (pair * grid.offsets() + offset as usize).min(ANGLES)
 }

@@ -10,7 +10,7 @@ use grid::{Cell, Grid, Row};
 pub fn size_taken(grid: Grid) -> bool
     ensures { result ≡ size_taken grid }
 {
-    grid.width <= COLUMNS && grid.height <= ROWS
+    grid.columns() <= COLUMNS && grid.rows() <= ROWS
 }
 
 // A C's cell, by the row and the column that the grid has.

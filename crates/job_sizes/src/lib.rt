@@ -9,15 +9,15 @@ use grid::Row;
 pub use indices::{angle_on, cell_on, size_taken};
 
 // The largest grid that a job takes, and what its map has: cells, angles, and words of its sums.
-pub const COLUMNS: u32 = 24;
+pub const COLUMNS: usize = 24;
 
-pub const ROWS: u32 = 12;
+pub const ROWS: usize = 12;
 
-pub const CELLS: usize = (COLUMNS * ROWS) as usize;
+pub const CELLS: usize = COLUMNS * ROWS;
 
-pub const ANGLES: usize = (ROWS * ROWS * (COLUMNS / 2 + 1)) as usize;
+pub const ANGLES: usize = ROWS * ROWS * (COLUMNS / 2 + 1);
 
-pub const SUMS: usize = ((COLUMNS + 1) * (ROWS + 1)) as usize;
+pub const SUMS: usize = (COLUMNS + 1) * (ROWS + 1);
 
 // How many places of each array a map takes.
 #[derive(Clone, Copy)]

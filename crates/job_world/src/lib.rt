@@ -16,6 +16,6 @@ pub struct JobState {
     pub grid: Grid,
     pub counts: [u32; job_sizes::CELLS],
     pub angles: [f64; job_sizes::ANGLES],
-    pub cosines: [f64; job_sizes::ROWS as usize],
+    pub cosines: [f64; job_sizes::ROWS],
     pub ledger: Ledger,
 }

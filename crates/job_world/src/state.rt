@@ -22,7 +22,7 @@ pub fn start() -> JobState
         },
         counts: [0; job_sizes::CELLS],
         angles: [0.0; job_sizes::ANGLES],
-        cosines: [1.0; job_sizes::ROWS as usize],
+        cosines: [1.0; job_sizes::ROWS],
         ledger: ledger::fresh(),
     }
 }
@@ -73,7 +73,7 @@ pub fn with_count(mut state: JobState, cell: Cell, count: u32) -> JobState
 pub fn with_cosine(mut state: JobState, row: Row, cosine: f64) -> JobState
     ensures { result ≡ cosine_state state row cosine }
 {
-    put(&mut state.cosines, row.0 as usize, cosine);
+    put(&mut state.cosines, usize::from(row), cosine);
     with_ledger(state, emptied(state.ledger))
 }
 

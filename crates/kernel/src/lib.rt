@@ -8,7 +8,7 @@ pub use band::build;
 use grid::Row;
 
 // The rows that a kernel has a place for: as many as a grid may have.
-pub const ROWS: usize = grid::MOST_ROWS as usize;
+pub const ROWS: usize = grid::MOST_ROWS;
 
 // The circles of a radius around the cells of a row: in each row from north up to end, how many columns from the centre's one on either
 // side are within, the centre's own included, and where the rows of the same reach that follow it end. Two arrays by row

@@ -19,6 +19,7 @@ pub(crate) fn mark(reaches: &[u8], north: u32, end: u32, runs: &mut [u8])
     requires runs_len { length runs.old ≡ row_places }
     ensures { Filled (run_in reaches.now) north end runs.old runs.new }
 {
+    // By `as`: no From leads from u32 to usize, nor to u8, and rows and ends are at most 90.
     let mut to = end;
     let mut below: u8 = 0;
     for row in (north..end).rev() {

@@ -16,7 +16,7 @@ pub fn circle_population(table: Table<'_>, kernel: &Kernel, col: Col) -> u64
     requires { CanSum table.grid kernel.now col }
     ensures { result ≡ kernel_population (table_map table.entry.grid table.entry.sums.now) kernel.now col }
 {
-    // No `for`: a turn goes on where its run ends, which the buffer of runs says.
+    // No `for`: a turn goes on where its run ends, which the buffer of runs says. Rows are numbers of 32 bits here, and index by `as`.
     let mut population: u64 = 0;
     let mut row = kernel.north.0;
     while row < kernel.end {

@@ -15,6 +15,6 @@ pub fn covers(grid: Grid, kernel: &Kernel) -> bool
     ensures { result ≡ kernel_covers grid kernel.now }
 {
     let closing = grid::closing(grid);
-    let rows = &kernel.reach[..grid.height as usize];
+    let rows = &kernel.reach[..grid.rows()];
     rows.iter().all(|reach| closing < u32::from(*reach))
 }

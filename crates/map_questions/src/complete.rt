@@ -10,14 +10,14 @@ use grid::{Globe, Grid};
 pub fn counts_complete(grid: Grid, counts: &[u32]) -> bool
     ensures { result ≡ counts_complete (lent_map grid counts.now [] []) }
 {
-    counts.len() as u64 == grid::cells(grid)
+    counts.len() == grid::cells(grid)
 }
 
-// Whether n is a × b, which may need more than 64 bits.
-fn is_product(n: u64, a: u64, b: u64) -> bool
+// Whether n is a × b, which may be no usize.
+fn is_product(n: usize, a: usize, b: usize) -> bool
     ensures { result ≡ eqb n (a * b) }
 {
-    u128::from(n) == u128::from(a) * u128::from(b)
+    a.checked_mul(b) == Some(n)
 }
 
 // Question 5: an angle for every centre row, row and column distance, and a cosine for every row.
@@ -25,8 +25,6 @@ fn is_product(n: u64, a: u64, b: u64) -> bool
 pub fn sheet_complete(globe: &Globe<'_>) -> bool
     ensures { result ≡ sheet_complete (globe_lent globe.now) }
 {
-    let height = u64::from(globe.grid.height);
-    let offsets = u64::from(grid::closing(globe.grid)) + 1;
-    let angles = globe.angles.len() as u64;
-    is_product(angles, height * height, offsets) && globe.cosines.len() as u64 == height
+    let rows = globe.grid.rows();
+    is_product(globe.angles.len(), rows * rows, globe.grid.offsets()) && globe.cosines.len() == rows
 }

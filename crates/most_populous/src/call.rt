@@ -16,9 +16,7 @@ pub fn buffers_fit(grid: Grid, sums: &[u64], current: &[u64], following: &[u64])
     ensures { result ≡ buffers_fit grid (buffers sums.now current.now following.now) }
 {
     let cells = grid::cells(grid);
-    sums_fill::sums_fit(grid, sums)
-        && cells <= current.len() as u64
-        && cells <= following.len() as u64
+    sums_fill::sums_fit(grid, sums) && cells <= current.len() && cells <= following.len()
 }
 
 // What the call's questions leave: its radius, or the first that is answered no. Question 8 is the radius's constructor.

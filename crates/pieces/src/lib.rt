@@ -67,6 +67,7 @@ fn tile_row(width: u32, spacing: u32, north: u32, south: u32, words: &mut [u64],
     requires { at + length (tile_row width spacing (range north south)) ≤ length words.old }
     ensures { Written words.old at (each word_of (tile_row width spacing (range north south))) words.new result }
 {
+    // By `as`, here and below: no From leads from u32 to usize.
     let mut next = at;
     for first in (0..width).step_by(spacing.max(1) as usize) {
         let last = step_end(first, spacing, width - 1);

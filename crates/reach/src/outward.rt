@@ -15,14 +15,15 @@ pub fn within(angle: f64, limit: f64) -> bool
     angle <= limit
 }
 
-// How many offsets of a row lie within an angle: found by halves, since angles do not fall as the offset grows.
+// How many offsets of a row lie within an angle: found by halves, since angles do not fall as the offset grows. By `as`, here and below:
+// no From leads from usize to u8 or from u32 to usize, and a reach is at most 91.
 pub fn reach_by_halves(globe: &Globe<'_>, centre: Row, row: Row, limit: f64) -> u8
     requires { PairOnSheet globe.now.grid globe.now.angles.now centre row }
     ensures { result ≡ reach (globe_lent globe.now) centre row limit }
 {
     let Globe { grid, angles, .. } = *globe;
     let first = grid::sheet_index(grid, centre, row, 0);
-    let end = first + grid.width as usize / 2 + 1;
+    let end = first + grid.columns() / 2 + 1;
     angles[first..end].partition_point(|angle| within(*angle, limit)) as u8
 }
 
@@ -62,11 +63,11 @@ fn reach_of(globe: &Globe<'_>, centre: Row, row: Row, limit: f64, guess: u8) -> 
 {
     let Globe { grid, angles, .. } = *globe;
     let first = grid::sheet_index(grid, centre, row, 0);
-    let last = grid.width as usize / 2;
+    let last = grid.columns() / 2;
     if within(angles[first + last], limit) {
         return last as u8 + 1;
     }
-    let from = last.min(guess as usize);
+    let from = last.min(usize::from(guess));
     if within(angles[first + from], limit) {
         return grown(angles, first, limit, from + 1, last) as u8;
     }

@@ -37,7 +37,7 @@ fn covers(globe: &Globe<'_>, end: RunEnd) -> bool
     if !end.reached {
         return true;
     }
-    let kernel = kernel::build(globe, end.centre.row, end.radius_km.0 as f64);
+    let kernel = kernel::build(globe, end.centre.row, f64::from(end.radius_km.0));
     kernel_sums::covers(globe.grid, &kernel)
 }
 

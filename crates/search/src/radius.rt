@@ -25,7 +25,7 @@ pub fn search_at(
         let none = search_rules::nothing();
         return search_rules::answer_of(none, km);
     }
-    let radius = km.0 as f64;
+    let radius = f64::from(km.0);
     let side = spacing::spacing_of(map.globe.grid, radius, spacing);
     let found = descend::searched(map, radius, side, buffers.current, buffers.following);
     search_rules::answer_of(found, km)

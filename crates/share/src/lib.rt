@@ -30,7 +30,8 @@ pub fn share_in_range(share: f64) -> bool
     floats::is_finite(share) && 0.0 < share && share <= 1.0
 }
 
-// Share × total with one rounding: a total up to 2 to the power 53 is exact as binary64, so the product alone is rounded.
+// Share × total with one rounding: a total up to 2 to the power 53 is exact as binary64, so the product alone is rounded. By `as`, here and
+// below: no From leads from u64 to f64, since a larger number would be rounded.
 pub fn target_of(share: f64, total: u64) -> Target
     requires { total ≤ 2 ^ 53 }
     ensures { result ≡ target_of share total }
@@ -64,7 +65,7 @@ pub fn within_slack(persons: f64, slack: f64, centre: Candidate) -> bool
 pub fn predicate_slack_persons(grid: Grid, total: f64) -> f64
     ensures { result ≡ predicate_slack_persons grid total }
 {
-    let rows = grid.height as f64;
+    let rows = f64::from(grid.height);
     let ulp = floats::next_up(total) - total;
     rows * 4.0 * ulp + rows * floats::EPSILON * total
 }

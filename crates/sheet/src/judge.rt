@@ -156,8 +156,7 @@ impl SheetJudge {
     fn run_ahead(self, n: usize) -> bool
         ensures { result ≡ run_ahead self n }
     {
-        let last = grid::closing(self.grid) as usize;
-        self.offset == 0 && self.centre < self.grid.height && last < n
+        self.offset == 0 && self.centre < self.grid.height && self.grid.offsets() <= n
     }
 
     // What is asked of a run: where no angle falls its first and its last one bound the rest.
@@ -185,9 +184,8 @@ impl SheetJudge {
     pub fn feed_all(self, angles: &[f64]) -> SheetJudge
         ensures { result ≡ fold judge_feed self angles.now }
     {
-        let grid = self.grid;
         let n = angles.len();
-        let run = grid::closing(grid) as usize + 1;
+        let run = self.grid.offsets();
         let mut judge = self;
         let mut at: usize = 0;
         while at < n {
@@ -216,7 +214,7 @@ pub fn angles_in_order(grid: Grid, angles: &[f64]) -> bool
     ensures { result ≡ judged grid angles.now }
 {
     let mut judge = SheetJudge::start(grid);
-    for run in angles.chunks_exact(grid::closing(grid) as usize + 1) {
+    for run in angles.chunks_exact(grid.offsets()) {
         judge = judge.feed_run(run);
         if !judge.verdict() {
             return false;

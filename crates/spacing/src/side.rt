@@ -15,10 +15,10 @@ fn latitude_extent(grid: Grid, rows: u32) -> f64
         return 0.0;
     }
     let step = floats::abs(grid.lat_step);
-    let height = floats::next_up(grid.height as f64 * step);
+    let height = floats::next_up(f64::from(grid.height) * step);
     let scale = floats::next_up(floats::abs(grid.origin_lat) + height);
     let headroom = floats::next_up(8.0 * floats::EPSILON * scale);
-    let span = floats::next_up(rows as f64 * step);
+    let span = floats::next_up(f64::from(rows) * step);
     floats::next_up(span + headroom)
 }
 
@@ -29,7 +29,7 @@ fn longitude_extent(grid: Grid, cols: u32) -> f64
     if cols == 0 {
         return 0.0;
     }
-    floats::next_up(cols as f64 * floats::abs(grid.lon_step))
+    floats::next_up(f64::from(cols) * floats::abs(grid.lon_step))
 }
 
 // Whether the radius widened by those extents stays below half the circumference. No cosine is taken, as if all lay on the equator, so

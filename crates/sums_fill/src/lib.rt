@@ -14,8 +14,8 @@ use grid::Grid;
 pub fn sums_fit(grid: Grid, sums: &[u64]) -> bool
     ensures { result ≡ sums_fit grid sums.now }
 {
-    let stride = grid.width as usize + 1;
-    let rows = grid.height as usize * stride;
+    let stride = grid.columns() + 1;
+    let rows = grid.rows() * stride;
     rows <= sums.len() && stride <= sums.len() - rows
 }
 
@@ -33,7 +33,7 @@ fn fill_row(grid: Grid, row: usize, counts: &[u32], sums: &mut [u64])
     ensures { sums.new
         ≡ over (sums_word (counts_map grid counts.now)) (words_through grid row + (grid.width + 1)) sums.old }
 {
-    let width = grid.width as usize;
+    let width = grid.columns();
     let above = row * (width + 1);
     let base = above + (width + 1);
     let from = row * width;
@@ -52,9 +52,8 @@ pub fn fill_sums(grid: Grid, counts: &[u32], sums: &mut [u64])
     ensures small { (i : ℕ) → get_or counts.now i 0 < 2 ^ 32 }
     ensures filled { sums.new ≡ filled_sums (counts_map grid counts.now) sums.old }
 {
-    let height = grid.height as usize;
-    zero_row(sums, grid.width as usize + 1);
-    for row in 0..height {
+    zero_row(sums, grid.columns() + 1);
+    for row in 0..grid.rows() {
         fill_row(grid, row, counts, sums);
     }
 }

@@ -36,6 +36,8 @@ impl<'a> Table<'a> {
         requires { AtCorner self.grid row col }
         ensures { result ≡ corner (table_map self.entry.grid self.entry.sums.now) row col }
     {
+        // By `as`: no From leads from u32 to usize, and a corner's numbers are no Row and no Col, since they may be one past the last. The
+        // width too: asked of `Grid::columns` it makes a search 7 % slower.
         let stride = self.grid.width as usize + 1;
         let from = row as usize * stride;
         let words = &self.sums[from..];

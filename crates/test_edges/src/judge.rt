@@ -29,7 +29,7 @@ fn by_pieces(grid: Grid, angles: &[f64], n: usize) -> bool
 pub(crate) fn sheet(rt: &impl Print, line: &[u64], board: &Board) -> io::Result<()> {
     let grid = board.map.grid;
     let lent = test_lines::first(&board.angles, board.map.angles);
-    let n = test_lines::word_at(line, 0) as usize;
+    let n = test_lines::size_at(line, 0);
     let well = if n == 0 {
         by_angle(grid, lent)
     } else {

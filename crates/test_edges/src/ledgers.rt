@@ -6,7 +6,7 @@ pub(crate) type Words = [u64; test_cases::LEDGER_WORDS];
 // F: the first word of a place, how many places from it on, kilometre, what it rises by from place to place, row, column,
 // population.
 fn fill(ledger: &mut [u64], line: &[u64]) {
-    let mut at = test_lines::word_at(line, 0) as usize;
+    let mut at = test_lines::size_at(line, 0);
     let mut km = test_lines::word_at(line, 2);
     let row = test_lines::word_at(line, 4);
     let col = test_lines::word_at(line, 5);
@@ -33,9 +33,9 @@ pub(crate) fn strayed(refusal: u32, line: &[u64], before: &[u64], after: &[u64])
     if refusal != 0 {
         return test_lines::differing(before, 0, after, 0, test_cases::LEDGER_WORDS);
     }
-    let from = test_lines::word_at(line, 0) as usize;
-    let up = test_lines::word_at(line, 1) as usize;
-    let next = from.wrapping_add(test_lines::word_at(line, 2) as usize);
+    let from = test_lines::size_at(line, 0);
+    let up = test_lines::size_at(line, 1);
+    let next = from.wrapping_add(test_lines::size_at(line, 2));
     let rest = next.wrapping_add(up);
     let first = test_lines::differing(before, 1, after, 1, from.wrapping_sub(1));
     let moved = test_lines::differing(before, from, after, next, up);

@@ -105,13 +105,13 @@ impl Game {
     // N: how much of each array is lent, and the words of the sums that an answer fills.
     fn lend(&mut self, line: &[u64]) {
         let map = &mut self.board.map;
-        map.counts = test_lines::word_at(line, 0) as usize;
-        map.angles = test_lines::word_at(line, 1) as usize;
-        map.cosines = test_lines::word_at(line, 2) as usize;
-        map.sums = test_lines::word_at(line, 3) as usize;
-        map.current = test_lines::word_at(line, 4) as usize;
-        map.following = test_lines::word_at(line, 5) as usize;
-        map.filled = test_lines::word_at(line, 6) as usize;
+        map.counts = test_lines::size_at(line, 0);
+        map.angles = test_lines::size_at(line, 1);
+        map.cosines = test_lines::size_at(line, 2);
+        map.sums = test_lines::size_at(line, 3);
+        map.current = test_lines::size_at(line, 4);
+        map.following = test_lines::size_at(line, 5);
+        map.filled = test_lines::size_at(line, 6);
     }
 
     // Plays a call, or sets what the next ones need.

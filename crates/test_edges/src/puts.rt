@@ -48,8 +48,8 @@ fn say(
     before: &[u64],
     after: &[u64],
 ) -> io::Result<()> {
-    let from = test_lines::word_at(line, 0) as usize;
-    let by = test_lines::word_at(line, 2) as usize;
+    let from = test_lines::size_at(line, 0);
+    let by = test_lines::size_at(line, 2);
     let own = test_lines::differing(line, 3, after, from, by);
     let strays = ledgers::strayed(refusal, line, before, after);
     print!(rt; " {refusal}, changed")?;

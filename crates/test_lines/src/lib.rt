@@ -5,6 +5,7 @@ mod numbers;
 mod reader;
 
 pub use numbers::{
-    beyond, bits_of, copy, differing, first, float_at, or_last, short_at, short_of, word_at,
+    beyond, bits_of, copy, differing, first, float_at, or_last, short_at, short_of, size_at,
+    word_at,
 };
 pub use reader::{Line, numbers_of};

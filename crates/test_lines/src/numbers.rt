@@ -37,6 +37,13 @@ pub fn short_at(line: &[u64], at: usize) -> u32
     short_of(word_at(line, at))
 }
 
+// The number at a place as a length or an index, by `as`: no From leads from u64 to usize.
+pub fn size_at(line: &[u64], at: usize) -> usize
+    ensures { result ≡ number_at line.now at }
+{
+    word_at(line, at) as usize
+}
+
 // The number at a place as a float's bits.
 pub fn float_at(line: &[u64], at: usize) -> f64
     ensures { result ≡ float_at line.now at }

@@ -24,6 +24,7 @@ fn entries(n: u64) -> u64 {
 // Whether a line of this letter has its numbers; a ledger says how many by its first. As many counts, angles and cosines
 // as a map has are asked for by questions 4 and 5.
 fn is_whole(tag: u8, line: &[u64]) -> bool {
+    // By `as`: no From leads from usize to u64.
     let n = line.len() as u64;
     match tag {
         b'C' | b'A' | b'K' => true,
@@ -55,7 +56,7 @@ fn line_played(replay: &mut Replay, score: &mut Score, text: &[u8]) {
 
 // How many lines of a letter agree, and how many differ.
 fn compared(rt: &impl Print, words: &str, score: &Score, letter: u8) -> io::Result<()> {
-    let at = letter as usize;
+    let at = usize::from(letter);
     println!(rt;
         "{words} {} agree, {} differ",
         score.agree[at], score.differ[at]
@@ -69,7 +70,7 @@ fn main(rt: HostRuntime) -> io::Result<()> {
     for text in list.split_inclusive(|b| *b == b'\n') {
         line_played(&mut replay, &mut score, text);
     }
-    println!(rt; "maps {}", score.agree[b'G' as usize])?;
+    println!(rt; "maps {}", score.agree[usize::from(b'G')])?;
     compared(&rt, "refused maps", &score, b'Q')?;
     compared(&rt, "circles", &score, b'P')?;
     compared(&rt, "spacings", &score, b'S')?;

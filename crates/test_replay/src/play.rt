@@ -84,8 +84,8 @@ impl Replay {
 
     // S: km; the automatic spacing.
     fn spacing(&self, line: &[u64]) -> bool {
-        let km = test_lines::short_at(line, 0) as f64;
-        spacing::initial_spacing(self.board.map.grid, km) as u64 == test_lines::word_at(line, 1)
+        let km = f64::from(test_lines::short_at(line, 0));
+        u64::from(spacing::initial_spacing(self.board.map.grid, km)) == test_lines::word_at(line, 1)
     }
 
     // M: spacing, 0 for the automatic one, km; centre, counts, tolerance.

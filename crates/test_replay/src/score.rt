@@ -41,6 +41,7 @@ impl Score {
         } else {
             &mut self.differ
         };
-        seen[tag as usize] = seen[tag as usize].wrapping_add(1);
+        let at = usize::from(tag);
+        seen[at] = seen[at].wrapping_add(1);
     }
 }

@@ -46,7 +46,8 @@ fn ledger_fits(words: &[u64]) -> bool
     true
 }
 
-// The entry that the four words of place i say. Its kilometre is as it was lent, and question 11 judges it.
+// The entry that the four words of place i say. Its kilometre is as it was lent, and question 11 judges it. By `as`, here and below: these
+// words fit, and no From leads from u64 to a smaller number or between u64 and usize.
 fn place_at(words: &[u64], i: usize) -> Entry
     requires words_value { ledger_fits words.now ≡ true }
     requires i_lt_capacity { i < capacity }

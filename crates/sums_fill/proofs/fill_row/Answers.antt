@@ -39,17 +39,17 @@ module _ (c : After-from-run) where
   small i = omega (arith, c.type_inv.counts i)
 
   words : c.loop-col.sums ≡ over (sums_word m) (words_through c.args.grid c.args.row + 1 + c.loop-col.col) (set c.args.sums.now (words_through c.args.grid c.args.row) 0)
-  words = rw (word_of_lem m) c.loop-col.invariant.1
+  words = rw (word_of_lem m) (rw c.columns-width.ensures.number at c.loop-col.invariant.1)
 
   -- what a turn reads above
   up : get_or c.loop-col.sums (c.args.row * (w + 1) + 1 + c.loop-col.col) 0 ≤ most_rows * most_columns * (2 ^ 32 - 1)
   up =
-      let read = ap (λ (l : List ℕ). get_or l (c.args.row * (w + 1) + 1 + c.loop-col.col) 0) words ∙ row_up m _ c.args.row c.loop-col.col c.loop-col-test.true in
+      let read = ap (λ (l : List ℕ). get_or l (c.args.row * (w + 1) + 1 + c.loop-col.col) 0) words ∙ row_up m _ c.args.row c.loop-col.col (omega (arith, c.columns-width.ensures.number)) in
       omega (arith, read, corner_small m small c.args.row (c.loop-col.col + 1) (omega arith) (omega arith))
 
   -- the sum that it makes of the row
   run : c.loop-col.run + c.from-run.result ≡ sum_below (c.loop-col.col + 1) (λ k. get_or c.args.counts.now (c.args.row * w + k) 0)
-  run = omega (arith, c.from-run.ensures, c.loop-col.invariant.0, sum_plus_one c.loop-col.col (λ k. get_or c.args.counts.now (c.args.row * w + k) 0))
+  run = omega (arith, rw c.columns-width.ensures.number at c.from-run.ensures, rw c.columns-width.ensures.number at c.loop-col.invariant.0, sum_plus_one c.loop-col.col (λ k. get_or c.args.counts.now (c.args.row * w + k) 0))
 
   run_small : c.loop-col.run + c.from-run.result ≤ most_columns * (2 ^ 32 - 1)
   unfolding count
@@ -58,20 +58,20 @@ module _ (c : After-from-run) where
 pub loop-col-init : goal.loop-col-init
 loop-col-init c =
     let m = counts_map c.args.grid c.args.counts.now in
-    (sym (sum_none _), rw (add-zero, ← word_of_lem m) (over_fix (sums_word m) _ c.args.sums.now _ (west c.args.grid c.args.row c.args.counts.now c.args.sums.now c.requires)))
+    (sym (sum_none _), rw (c.columns-width.ensures.number, add-zero, ← word_of_lem m) (over_fix (sums_word m) _ c.args.sums.now _ (west c.args.grid c.args.row c.args.counts.now c.args.sums.now c.requires)))
 
 pub overflow_add-run : goal.overflow_add-run
 overflow_add-run c = omega (arith, run_small c)
 
 pub overflow_add-sums-in-loop-col-2 : goal.overflow_add-sums-in-loop-col-2
-overflow_add-sums-in-loop-col-2 c = let d = (goal.at.overflow_add-sums-in-loop-col-2 c).After-from-run in omega (arith, run_small d, up d)
+overflow_add-sums-in-loop-col-2 c = let d = (goal.at.overflow_add-sums-in-loop-col-2 c).After-from-run in rw c.columns-width.ensures.number (omega (arith, run_small d, up d))
 
 pub loop-col-preserved : goal.loop-col-preserved
 unfolding count
 loop-col-preserved c =
     let d = (goal.at.loop-col-preserved c).After-from-run in
     let len = c.loop-col.auto.sums in
-    (run d, rw (run d, ← word_of_lem (m d)) (row_step (m d) _ c.loop-col.sums c.args.row c.loop-col.col c.loop-col-test.true (omega (arith, len, length-set c.args.sums.now)) (words d)))
+    (rw c.columns-width.ensures.number (run d), rw (run d, c.columns-width.ensures.number, ← word_of_lem (m d)) (row_step (m d) _ c.loop-col.sums c.args.row c.loop-col.col (omega (arith, c.columns-width.ensures.number)) (omega (arith, len, length-set c.args.sums.now)) (words d)))
 
 pub returns : goal.returns
 returns c =
@@ -80,4 +80,4 @@ returns c =
     let e : row + 1 + c.loop-col.col ≡ row + (c.args.grid.width + 1) = omega arith in
     rw (← e)
     (over_more (sums_word m) (row + 1) c.loop-col.col c.args.sums.now _ c.loop-col.sums
-    (west c.args.grid c.args.row c.args.counts.now c.args.sums.now c.requires) (rw (word_of_lem m) c.loop-col.invariant.1))
+    (west c.args.grid c.args.row c.args.counts.now c.args.sums.now c.requires) (rw (word_of_lem m) (rw c.columns-width.ensures.number at c.loop-col.invariant.1)))

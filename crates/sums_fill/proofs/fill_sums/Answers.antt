@@ -1,7 +1,7 @@
 -- `sums_fill::fill_sums`. Invariant: the words of the rows up to this one are the map's.
 use mathlib.Core.Path.{◌≡◌, sym, ◌∙◌}
 use mathlib.Core.List.{List}
-use Prim.Native.Nat.{ℕ, ◌+◌, ◌*◌}
+use Prim.Native.Nat.{ℕ, ◌+◌, ◌*◌, ◌<◌}
 use native.Mathlib.Omega.{arith}
 use native.Mathlib.Nat.{add_comm}
 use Rattle.lists.specs.Front.{over}
@@ -25,7 +25,7 @@ pub loop-row-init : goal.loop-row-init
 loop-row-init c =
     let m = counts_map c.args.grid c.args.counts.now in
     let e : 0 * (width_of m + 1) + (width_of m + 1) ≡ width_of m + 1 = omega arith in
-    rw e (over_fix (sums_word m) (width_of m + 1) c.args.sums.now _ (first m c.args.sums.now _ c.zero_row.ensures))
+    rw e (over_fix (sums_word m) (width_of m + 1) c.args.sums.now _ (first m c.args.sums.now _ (rw c.columns.ensures.number at c.zero_row.ensures)))
 
 pub fill_row-requires : goal.fill_row-requires
 unfolding sums_words
@@ -33,7 +33,7 @@ fill_row-requires c =
     let p = c.requires in
     let w = c.args.grid.width in
     let h = c.args.grid.height in
-    let l = c.loop-row-test.true in
+    let l : c.loop-row.row < h = omega (arith, c.rows-row-end.ensures.number) in
     record {
       columns = p.columns;
       rows = omega arith;
@@ -56,5 +56,5 @@ returns-clause-filled c =
     let h = c.args.grid.height in
     let e : c.loop-row.row ≡ h = omega arith in
     rw (all_rows w h)
-    (over_more (sums_word m) (w + 1) (h * (w + 1)) c.args.sums.now c.zero_row.new.sums c.loop-row.sums (first m c.args.sums.now c.zero_row.new.sums c.zero_row.ensures)
+    (over_more (sums_word m) (w + 1) (h * (w + 1)) c.args.sums.now c.zero_row.new.sums c.loop-row.sums (first m c.args.sums.now c.zero_row.new.sums (rw c.columns.ensures.number at c.zero_row.ensures))
     (rw (e, add_comm (h * (w + 1)) (w + 1)) at c.loop-row.invariant))

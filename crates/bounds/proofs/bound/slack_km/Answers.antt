@@ -12,4 +12,4 @@ overflow_sub-block c = rw c.probe-p.ensures (probe_held _ _ c.requires.rectangle
 pub bounds-cosines-at : goal.bounds-cosines-at
 bounds-cosines-at c =
     let r = c.requires.rectangle in
-    rw c.probe-p.ensures (omega (arith, (probe_held _ c.args.block r).south, r.south, c.requires.complete))
+    rw (c.from-at.ensures, c.probe-p.ensures) (omega (arith, (probe_held _ c.args.block r).south, r.south, c.requires.complete))

@@ -38,11 +38,11 @@ invariant_of-table c =
 pub circle_population-requires : goal.circle_population-requires
 circle_population-requires c =
     let r = (goal.at.circle_population-requires c).In_ok-radius in
-    to_sum _ _ _ _ (passed r) _ (left r).1 _ c.build-kernel.ensures
+    to_sum _ _ _ _ (passed r) _ (left r).1 _ (rw c.from.ensures at c.build-kernel.ensures)
 
 pub returns : goal.returns
 returns c =
     let r = (goal.at.returns c).In_ok-radius in
     circle_answered _ _ _ _ _ _ (left r).0
-    (c.circle_population.ensures ∙ summed_up _ _ _ _ (passed r) _ (left r).1 _ c.build-kernel.ensures _ c.fill_sums.ensures.filled)
+    (c.circle_population.ensures ∙ summed_up _ _ _ _ (passed r) _ (left r).1 _ (rw c.from.ensures at c.build-kernel.ensures) _ c.fill_sums.ensures.filled)
     (c.fill_sums.ensures.filled ∙ bare_filled (given r) _)

@@ -13,7 +13,8 @@ begun-short : (c : After-begin_line-begun) → c.begin_line-begun.result.len ≤
 begun-short c =
     let found = c.args.found in
     let centre = found.centre in
-    begun_len c.begin_line-begun.result least_word (found.radius_km.0 ∷ centre.row.0 ∷ centre.col.0 ∷ centre.population ∷ []) c.begin_line-begun.ensures
+    begun_len c.begin_line-begun.result least_word (found.radius_km.0 ∷ centre.row.0 ∷ centre.col.0 ∷ centre.population ∷ [])
+    (rw (c.from.ensures, c.from-2.ensures, c.from-3.ensures) at c.begin_line-begun.ensures)
 
 -- and as far as its witness
 short-len : (c : After-add_short-shown) → c.add_short-shown.result.len ≤ 5 + 6 * longest_field
@@ -21,7 +22,8 @@ short-len c =
     let begun = c.begin_line-begun in
     let found = c.args.found in
     let centre = found.centre in
-    let begun-len = begun_len begun.result least_word (found.radius_km.0 ∷ centre.row.0 ∷ centre.col.0 ∷ centre.population ∷ []) begun.ensures in
+    let e = rw (c.from.ensures, c.from-2.ensures, c.from-3.ensures) at begun.ensures in
+    let begun-len = begun_len begun.result least_word (found.radius_km.0 ∷ centre.row.0 ∷ centre.col.0 ∷ centre.population ∷ []) e in
     let longer = len_longer begun.result c.add_short-shown.result _ c.add_short-shown.ensures in
     omega (arith, begun-len, longer, length_short found.short_below)
 
@@ -42,4 +44,4 @@ unfolding least_line
 returns c =
     let begun = c.begin_line-begun in
     line_four begun.result c.add_short-shown.result c.add_fields.result c.end_line.result _ _ _ newline
-    begun.ensures c.add_short-shown.ensures c.add_fields.ensures c.end_line.ensures (omega (arith, length_least c.args.found))
+    (rw (c.from.ensures, c.from-2.ensures, c.from-3.ensures) at begun.ensures) c.add_short-shown.ensures c.add_fields.ensures c.end_line.ensures (omega (arith, length_least c.args.found))

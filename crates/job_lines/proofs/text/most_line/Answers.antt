@@ -7,10 +7,10 @@ use Rattle.job_lines.proofs.text.most_line.Goals as goal
 
 pub end_line-requires : goal.end_line-requires
 unfolding most_fields
-end_line-requires c = omega (arith, begun_len c.begin_line.result most_word (most_fields c.args.found) c.begin_line.ensures)
+end_line-requires c = omega (arith, begun_len c.begin_line.result most_word (most_fields c.args.found) (rw (c.from.ensures, c.from-2.ensures, c.from-3.ensures, c.from-4.ensures) at c.begin_line.ensures))
 
 pub returns : goal.returns
 unfolding most_line most_fields
 returns c =
     let begun = c.begin_line in
-    line_then c.end_line.result begun.result _ newline c.end_line.ensures begun.ensures (omega (arith, length_most c.args.found))
+    line_then c.end_line.result begun.result _ newline c.end_line.ensures (rw (c.from.ensures, c.from-2.ensures, c.from-3.ensures, c.from-4.ensures) at begun.ensures) (omega (arith, length_most c.args.found))

@@ -30,6 +30,6 @@ pub returns : goal.returns
 returns c =
     let p = c.requires in
     let e = c.sheet_index-first.ensures in
-    let point = c.partition_point.ensures in
+    let point = rw c.columns.ensures.number at c.partition_point.ensures in
     row_halved p e c.args.limit _ _ point.bound
     (IsPartitionPoint-from_clause (λ y. le y c.args.limit) (row_part p e) _ point.partitioned (row_rises p e c.args.limit) (λ a r f k. search (rules, tests)))

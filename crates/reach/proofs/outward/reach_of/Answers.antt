@@ -15,7 +15,7 @@ pub offset_bounds-angles-first : goal.offset_bounds-angles-first
 offset_bounds-angles-first c = let h = last_fits c.requires c.sheet_index-first.ensures in search rules
 
 pub bounds-angles-first : goal.bounds-angles-first
-bounds-angles-first c = last_fits c.requires c.sheet_index-first.ensures
+bounds-angles-first c = rw c.columns-last.ensures.number (last_fits c.requires c.sheet_index-first.ensures)
 
 pub overflow_cast-result : goal.overflow_cast-result
 overflow_cast-result c = omega (arith, sheet_wide c.requires.sheet)

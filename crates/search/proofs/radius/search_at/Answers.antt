@@ -11,5 +11,5 @@ returns-then-km-eq0-clause-found c =
 pub returns-clause-found : goal.returns-clause-found
 returns-clause-found c =
     let a = c.args in
-    c.answer_of-2.ensures ∙ search_found _ a.spacing a.km.0 c.spacing_of-side.result c.searched-found.result c.if-km-eq0.false c.spacing_of-side.ensures
-    c.searched-found.ensures
+    c.answer_of-2.ensures ∙ search_found _ a.spacing a.km.0 c.spacing_of-side.result c.searched-found.result c.if-km-eq0.false
+    (rw c.from-radius.ensures at c.spacing_of-side.ensures) (rw c.from-radius.ensures at c.searched-found.ensures)

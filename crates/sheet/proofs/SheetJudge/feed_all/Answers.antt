@@ -25,14 +25,14 @@ module _ (c : Then-run_ahead) where
   xs = c.args.angles.now
 
   abbrev run : ℕ
-  run = c.closing.result + 1
+  run = c.offsets-run.result
 
   parts : (c.loop-at.judge.offset ≡ 0) × (c.loop-at.judge.centre < c.loop-at.judge.grid.height) × (run ≡ closing c.loop-at.judge.grid + 1)
       × (c.loop-at.at + run ≤ length xs)
   parts =
       let test = ahead _ _ (sym c.run_ahead.ensures ∙ c.if-run_ahead.true) in
       let grid : c.loop-at.judge.grid ≡ c.args.self.grid = ap (λ j. j.grid) c.loop-at.invariant.1 ∙ grid_kept _ _ in
-      let size : run ≡ closing c.loop-at.judge.grid + 1 = omega (arith, c.closing.ensures, ap closing grid) in
+      let size : run ≡ closing c.loop-at.judge.grid + 1 = omega (arith, c.offsets-run.ensures.number, ap closing grid) in
       (test.0, test.1, size, omega (arith, test.2, size, c.loop-at.invariant.0))
 
   -- the run's place in the slice
