@@ -72,6 +72,7 @@ module _ (m : Map) where
       sum_le m.globe.grid.height _ _ (λ r R. sum_le m.globe.grid.width _ _ (λ k K.
       some_le (in_circle m.globe km c (cell r k)) (count m (cell r k))))
 
+  -- populations grow with the radius: cited by nothing yet, kept for the promise that no smaller radius would do
   pub population_grows : (n km : ℕ) → n ≤ km → km ≤ 2 ^ 53 → (c : Cell) → population m (whole n) c ≤ population m (whole km) c
   population_grows n km h l c = population_le (whole n) (whole km) c c (λ r k R K. circle_grows m.globe n km h l c (cell r k))
 
@@ -86,7 +87,7 @@ module _ (m : Map) where
       sum_ext m.globe.grid.height _ _ (λ r R. sum_ext m.globe.grid.width _ _ (λ k K.
       rw (is_true (in_circle m.globe km c (cell r k)) (circle_all m.globe q c C km h (cell r k) R))))
 
--- populations grow with the counts
+-- populations grow with the counts: cited by nothing yet, kept for promises of worlds whose counts lie between two
 pub population_people : (s : Globe) (a b : List ℕ) → ((i : ℕ) → get_or a i 0 ≤ get_or b i 0)
     → (km : Float) (c : Cell) → population (record { globe = s; counts = a }) km c ≤ population (record { globe = s; counts = b }) km c
 unfolding population count

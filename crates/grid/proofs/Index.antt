@@ -8,7 +8,6 @@ use Rattle.grid.specs.Grid.{angle_count}
 use Rattle.grid.specs.Map.{sheet_index}
 use Rattle.grid.specs.Requires.{InSheet}
 
--- how many angles a sheet has at most
 module _ (g : Grid) (centre row : Row) (offset : ℕ) (i : InSheet g centre row offset) where
   pub pair_in : centre.0 * g.height + row.0 < g.height * g.height
   pair_in = digits_lt i.centre_on i.row_on

@@ -7,5 +7,6 @@ pub mod Found
 pub mod General
 pub mod Index
 pub mod Radii
+pub mod RadiusCalls
 pub mod SheetOrder
 pub mod Sizes

@@ -73,6 +73,7 @@ fn least(operands: &[u8; 10]) -> Command
 
 // By the letter; an unknown one is no command. Nor are bytes that end before the operands do: what is missing is not taken for
 // zeros. E ends the bytes as it ends the job.
+#[tactic(auto, using(crate::proofs::Operands::operands_cut), unfolding(crate::specs::Command::decode_as))]
 fn decode_as(letter: u8, bytes: &[u8], from: usize) -> Option<Decoded>
     requires { from ≤ length bytes.now }
     ensures { result ≡ decoded_in bytes.now (decode_as letter (drop from bytes.now)) }

@@ -4,9 +4,7 @@ use mathlib.Core.Path.{◌≡◌, ap}
 use native.Mathlib.Omega.{arith}
 use Rattle.lists.proofs.Sums.{times_le}
 use Rattle.grid.specs.declared.Grid.{Grid}
-use Rattle.grid.specs.declared.Row.{Row}
-use Rattle.grid.specs.Grid.{cells, closing, angle_count}
-use Rattle.grid.specs.Map.{sheet_index}
+use Rattle.grid.specs.Grid.{cells, angle_count}
 use Rattle.job_sizes.specs.declared.Places.{Places}
 use Rattle.job_sizes.specs.Sizes.{job_rows, job_cells, job_angles, places_of}
 
@@ -27,10 +25,5 @@ module _ (g : Grid) (p : Places) (e : p ≡ places_of g) where
 
 -- ---- the place of an angle, at most job_angles
 
-beyond : (p q k : ℕ) → job_angles ≤ p → job_angles ≡ min (p * (q + 1) + k) job_angles
+pub beyond : (p q k : ℕ) → job_angles ≤ p → job_angles ≡ min (p * (q + 1) + k) job_angles
 beyond p q k h = omega (arith, times_le 1 (q + 1) 1 (q + 1) (omega arith) (omega arith), times_le job_angles 1 p (q + 1) h (omega arith))
-
-module _ (g : Grid) (centre row : Row) (offset : ℕ) where
-  pub pair_beyond : job_angles ≤ centre.0 * g.height + row.0 → job_angles ≡ min (sheet_index g centre row offset) job_angles
-  unfolding sheet_index
-  pair_beyond h = beyond (centre.0 * g.height + row.0) (closing g) offset h

@@ -47,7 +47,8 @@ fn map_of(state: &JobState) -> Map<'_>
     }
 }
 
-// The search on the map's part of the arrays.
+// The search on the map's part of the arrays. It and `least_of` stay two: what they share is `map_of` and `spacing_of`, and each lends, asks and
+// gives what its own call does.
 #[tactic(auto, using(crate::proofs::Lent::search_lent), unfolding(job_rules::specs::Apply::job_buffers))]
 fn most_of(state: JobState, spacing: u32, km: u32) -> Result<MostPopulous, Refusal>
     ensures { answer_of result ≡ (search_call (job_map state) (job_spacing spacing) km job_buffers).answer }

@@ -20,6 +20,7 @@ pub fn buffers_fit(grid: Grid, sums: &[u64], current: &[u64], following: &[u64])
 }
 
 // What the call's questions leave: its radius, or the first that is answered no. Question 8 is the radius's constructor.
+#[tactic(auto, using(grid::proofs::Answers::refused_stands), unfolding(crate::specs::Call::search_questions))]
 fn search_asked(
     map: &Map<'_>,
     km: u32,

@@ -2,6 +2,7 @@
 #![tactic(auto)]
 
 mod cut;
+mod kept;
 mod sweep;
 
 pub use cut::level;

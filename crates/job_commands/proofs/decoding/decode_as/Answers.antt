@@ -3,41 +3,11 @@ use Rattle.std.proofs.Common.{drop, arith}
 use borrow.Author.Tests.{ne_eqb}
 use Rattle.job_commands.specs.State.{decoded_in}
 use Rattle.job_commands.proofs.Operands.{grid_within, count_within, cosine_within, angle_within, most_within, least_within}
-use Rattle.job_commands.proofs.Operands.{operands_cut, operands_read, end_followed, end_last}
+use Rattle.job_commands.proofs.Operands.{operands_read, end_followed, end_last}
 use Rattle.job_commands.specs.Command.{decode_as, set_grid_of, set_count_of, set_cosine_of, set_angle_of, most_of, least_of}
 use Rattle.job_commands.proofs.decoding.decode_as.Goals as goal
 use Rattle.job_commands.proofs.decoding.decode_as.Goals.{in-71+in_ok-first_chunk-in-71, in-67+in_ok-first_chunk-in-67, in-75+in_ok-first_chunk-in-75}
 use Rattle.job_commands.proofs.decoding.decode_as.Goals.{in-65+in_ok-first_chunk-in-65, in-77+in_ok-first_chunk-in-77, in-82+in_ok-first_chunk-in-82, in-69}
-
-pub returns-in_err-first_chunk-in-71 : goal.returns-in_err-first_chunk-in-71
-unfolding decode_as
-returns-in_err-first_chunk-in-71 c =
-    rw (c.from_residual.ensures, c.in-71.is) (operands_cut c.args.bytes.now c.args.from c.requires 26 set_grid_of c.in_err-first_chunk-in-71.ensures.cases)
-
-pub returns-in_err-first_chunk-in-67 : goal.returns-in_err-first_chunk-in-67
-unfolding decode_as
-returns-in_err-first_chunk-in-67 c =
-    rw (c.from_residual-in_err-first_chunk-in-67.ensures, c.in-67.is) (operands_cut c.args.bytes.now c.args.from c.requires 6 set_count_of c.in_err-first_chunk-in-67.ensures.cases)
-
-pub returns-in_err-first_chunk-in-75 : goal.returns-in_err-first_chunk-in-75
-unfolding decode_as
-returns-in_err-first_chunk-in-75 c =
-    rw (c.from_residual-in_err-first_chunk-in-75.ensures, c.in-75.is) (operands_cut c.args.bytes.now c.args.from c.requires 9 set_cosine_of c.in_err-first_chunk-in-75.ensures.cases)
-
-pub returns-in_err-first_chunk-in-65 : goal.returns-in_err-first_chunk-in-65
-unfolding decode_as
-returns-in_err-first_chunk-in-65 c =
-    rw (c.from_residual-in_err-first_chunk-in-65.ensures, c.in-65.is) (operands_cut c.args.bytes.now c.args.from c.requires 11 set_angle_of c.in_err-first_chunk-in-65.ensures.cases)
-
-pub returns-in_err-first_chunk-in-77 : goal.returns-in_err-first_chunk-in-77
-unfolding decode_as
-returns-in_err-first_chunk-in-77 c =
-    rw (c.from_residual-in_err-first_chunk-in-77.ensures, c.in-77.is) (operands_cut c.args.bytes.now c.args.from c.requires 4 most_of c.in_err-first_chunk-in-77.ensures.cases)
-
-pub returns-in_err-first_chunk-in-82 : goal.returns-in_err-first_chunk-in-82
-unfolding decode_as
-returns-in_err-first_chunk-in-82 c =
-    rw (c.from_residual-in_err-first_chunk-in-82.ensures, c.in-82.is) (operands_cut c.args.bytes.now c.args.from c.requires 10 least_of c.in_err-first_chunk-in-82.ensures.cases)
 
 pub returns-in_default : goal.returns-in_default
 unfolding decode_as

@@ -3,7 +3,6 @@ use Rattle.std.proofs.Common.{Option}
 use mathlib.Core.Path.{◌≡◌, sym, ap, subst, ◌∙◌}
 use mathlib.Core.Bool.{true, false, cond, not}
 use mathlib.Core.List.{List, [], ◌∷◌, ◌++◌}
-use mathlib.Core.Logic.{◌⊎◌, inl, inr}
 use Prim.Native.Nat.{ℕ, ◌<◌}
 use lib.Ieee.{Float, eq}
 use Rattle.grid.specs.declared.Cell.{Cell}
@@ -19,10 +18,10 @@ use Rattle.kernel.proofs.Placing.{kernel_own, kernel_kept}
 use Rattle.circle_cells.proofs.Populations.{same_population}
 use Rattle.lists.proofs.Bools.{of_true}
 use Rattle.blocks.specs.declared.Block.{Block}
-use Rattle.blocks.specs.Block.{probe, Rectangle, same_shape}
+use Rattle.blocks.specs.Block.{probe, Rectangle}
 use Rattle.bounds.specs.Bound.{wide_km}
 use Rattle.bounds.specs.State.{wide_kernel}
-use Rattle.bounds.specs.Requires.{CanWiden}
+use Rattle.sweep.specs.declared.kept.Kept.{Kept}
 use Rattle.levels.specs.Level.{examine, chunk}
 use Rattle.levels.specs.Requires.{Ready}
 use Rattle.levels.specs.State.{Swept, summed_lent, Serves}
@@ -30,8 +29,8 @@ use Rattle.chunk_work.specs.State.{work_of}
 use Rattle.pieces.specs.Requires.{CanSplit}
 use Rattle.chunk_work.specs.declared.ChunkWork.{ChunkWork}
 use Rattle.chunk_work.specs.Requires.{CanCount}
-use Rattle.sweep.proofs.Serving.{wide_at, wide_radius_lem, serves_none, serves_still, wide_now}
-use Rattle.levels.proofs.OneBlock.{ready_sheet, ready_cosines, probe_row_lem, probe_placed, probe_people, not_asked, examined_is}
+use Rattle.sweep.proofs.Serving.{wide_at, wide_radius_lem, serves_none}
+use Rattle.levels.proofs.OneBlock.{ready_sheet, probe_row_lem, probe_placed, probe_people, not_asked, examined_is}
 use Rattle.sweep.proofs.Sweeps.{middle_on, start_held, start_own, sweep_start, next_rectangle, sweep_counts, sweep_room, sweep_next, sweep_done}
 use Rattle.std.proofs.Common.{arith}
 use Rattle.std.proofs.lemmas.Bool.Decides.{nat_tests}
@@ -40,7 +39,7 @@ use lib.ListN.{get_or}
 use Rattle.blocks.specs.State.{blocks_of, block_of as of_word}
 use Rattle.sweep.proofs.sweep.chunk.Goals as goal
 use Rattle.candidates.specs.declared.Candidate.{Candidate}
-use Rattle.sweep.proofs.sweep.chunk.Goals.{After-odd_columns, then-odd_columns, else-odd_columns, then-not-same_shape, else-not-same_shape, then-not-same_shape-2, else-not-same_shape-2, then-asks, else-asks, then-ne, else-ne}
+use Rattle.sweep.proofs.sweep.chunk.Goals.{After-odd_columns, then-odd_columns, else-odd_columns, then-asks, else-asks, then-ne, else-ne}
 
 same_row : (x y : ℕ) → not (eqb x y) ≡ false → x ≡ y
 same_row x y e = grind (arith, nat_tests)
@@ -69,9 +68,6 @@ module _ (h : After-odd_columns) where
       subst (Rectangle globe.grid) (sym word)
       (next_rectangle _ _ _ _ _ _ _ _ _ ready h.requires l.following l.work l.at _ l.invariant.0 h.loop-word-test.true)
 
-  can_widen : CanWiden globe.grid globe.angles.now globe.cosines.now block_of
-  can_widen = record { sheet = ready_sheet _ _ _ _ ready; complete = ready_cosines _ _ _ _ ready; rectangle = rectangle }
-
   -- a kernel of the probe's row: it can be summed around the probe, to the people of the probe's circle
   module _ (km : Float) (k : Kernel) (is : KernelAt the_map.globe (probe block_of).row km k) where
     can_sum : CanSum globe.grid k h.probe-p.result.col
@@ -82,26 +78,16 @@ module _ (h : After-odd_columns) where
 
   -- ---- the wide kernels, either of which is the block's own once it is built or kept
 
-  abbrev ServesNow : Block → Kernel → Type 0
-  ServesNow shape k = Serves globe.grid globe.angles.now globe.cosines.now h.args.km shape k
+  abbrev IsWide : Float × ℕ → Type 0
+  IsWide w = let there = wide_km the_map.globe h.args.km block_of in (w.0 ≡ there) × (w.1 ≡ population the_map there (probe block_of))
 
-  abbrev WideNow : Block → Kernel → Type 0
-  WideNow shape k = (k ≡ wide_kernel the_map.globe h.args.km block_of) × ServesNow shape k
+  -- the radius and the people of a kernel that is the block's own
+  is_wide : (k : Kernel) → k ≡ wide_kernel the_map.globe h.args.km block_of → (n : ℕ)
+      → n ≡ kernel_population (table_map globe.grid h.args.map.now.sums.now) k h.probe-p.result.col → IsWide (k.km, n)
+  is_wide k own n e = (wide_radius_lem _ _ block_of k own, e ∙ people _ k (wide_at _ _ block_of k own))
 
-  -- built anew, or kept from the block before
-  abbrev Own : Block → Kernel → Block → Kernel → Type 0
-  Own shape₀ k₀ shape k =
-      ((shape ≡ block_of) × (k ≡ wide_kernel the_map.globe h.args.km block_of))
-      ⊎ ((same_shape shape₀ block_of ≡ true) × (shape ≡ shape₀) × (k ≡ k₀))
-
-  one_now : (shape : Block) (k : Kernel) → Own h.loop-word.one_shape h.loop-word.one shape k → WideNow shape k
-  one_now shape k own = wide_now _ _ _ _ block_of rectangle _ shape _ k h.loop-word.invariant.2 own
-
-  two_now : (shape : Block) (k : Kernel) → Own h.loop-word.two_shape h.loop-word.two shape k → WideNow shape k
-  two_now shape k own = wide_now _ _ _ _ block_of rectangle _ shape _ k h.loop-word.invariant.3 own
-
-  abbrev Wide : Float → ℕ → Type 0
-  Wide wide bound = let there = wide_km the_map.globe h.args.km block_of in (wide ≡ there) × (bound ≡ population the_map there (probe block_of))
+  abbrev ServesNow : Kept → Type 0
+  ServesNow k = Serves globe.grid globe.angles.now globe.cosines.now h.args.km k.shape k.kernel
 
   -- ---- the exact kernel
 
@@ -118,34 +104,34 @@ build-exact-requires c = middle_on _ _ (ready_sheet _ _ _ _ c.args.map.now.ready
 
 pub loop-word-init : goal.loop-word-init
 loop-word-init c =
-    let shape = c.no_shape-one_shape in (
+    let none = serves_none _ _ _ _ _ (ap (λ (k : Kept). k.shape) c.of_no_shape-one.ensures) _ in (
       sweep_start _ _ _ _ _ _ _ _ _ c.args.map.now.ready c.requires c.started-work.result (start_own _ _ _ c.started-work.result c.started-work.ensures),
       kernel_own _ _ _ _ c.build-exact.ensures,
-      serves_none _ _ _ _ shape.result shape.ensures _,
-      serves_none _ _ _ _ shape.result shape.ensures _,
+      none,
+      none,
     )
 
-pub wide_kernel-one-requires : goal.wide_kernel-one-requires
-wide_kernel-one-requires c = can_widen (goal.at.wide_kernel-one-requires c).After-odd_columns
+pub serve-requires-clause-rectangle : goal.serve-requires-clause-rectangle
+serve-requires-clause-rectangle c = rectangle (goal.at.serve-requires-clause-rectangle c).After-odd_columns
 
-pub wide_kernel-two-requires : goal.wide_kernel-two-requires
-wide_kernel-two-requires c = can_widen (goal.at.wide_kernel-two-requires c).After-odd_columns
+pub serve-requires-clause-serves : goal.serve-requires-clause-serves
+serve-requires-clause-serves c = c.loop-word.invariant.2
 
-pub circle_population-bound-requires : goal.circle_population-bound-requires
-circle_population-bound-requires c =
-    let h = (goal.at.circle_population-bound-requires c).After-odd_columns in
-    let j = c.if-not-same_shape in
-    let own : Own h c.loop-word.one_shape c.loop-word.one j.one_shape j.one =
-    elim c.if-not-same_shape.branch [ then-not-same_shape v ↦ inl (v.one_shape-is, v.one-is ∙ v.wide_kernel-one.ensures) | else-not-same_shape v ↦ inr (sym c.same_shape.ensures ∙ v.if-not-same_shape.false, v.one_shape-is, v.one-is) ] in
-    can_sum h _ j.one (wide_at _ _ (block_of h) j.one (one_now h j.one_shape j.one own).0)
+pub serve-requires-else-odd_columns-clause-rectangle : goal.serve-requires-else-odd_columns-clause-rectangle
+serve-requires-else-odd_columns-clause-rectangle c = rectangle (goal.at.serve-requires-else-odd_columns-clause-rectangle c).After-odd_columns
 
-pub circle_population-bound-requires-else-odd_columns : goal.circle_population-bound-requires-else-odd_columns
-circle_population-bound-requires-else-odd_columns c =
-    let h = (goal.at.circle_population-bound-requires-else-odd_columns c).After-odd_columns in
-    let j = c.if-not-same_shape-2 in
-    let own : Own h c.loop-word.two_shape c.loop-word.two j.two_shape j.two =
-    elim c.if-not-same_shape-2.branch [ then-not-same_shape-2 v ↦ inl (v.two_shape-is, v.two-is ∙ v.wide_kernel-two.ensures) | else-not-same_shape-2 v ↦ inr (sym c.same_shape-else-odd_columns.ensures ∙ v.if-not-same_shape-2.false, v.two_shape-is, v.two-is) ] in
-    can_sum h _ j.two (wide_at _ _ (block_of h) j.two (two_now h j.two_shape j.two own).0)
+pub serve-requires-else-odd_columns-clause-serves : goal.serve-requires-else-odd_columns-clause-serves
+serve-requires-else-odd_columns-clause-serves c = c.loop-word.invariant.3
+
+pub circle_population-requires : goal.circle_population-requires
+circle_population-requires c =
+    let h = (goal.at.circle_population-requires c).After-odd_columns in
+    can_sum h _ _ (wide_at _ _ (block_of h) _ c.serve.ensures.own)
+
+pub circle_population-requires-else-odd_columns : goal.circle_population-requires-else-odd_columns
+circle_population-requires-else-odd_columns c =
+    let h = (goal.at.circle_population-requires-else-odd_columns c).After-odd_columns in
+    can_sum h _ _ (wide_at _ _ (block_of h) _ c.serve-else-odd_columns.ensures.own)
 
 pub build-exact-requires-then-ne : goal.build-exact-requires-then-ne
 build-exact-requires-then-ne c =
@@ -177,6 +163,7 @@ write_children-at-requires c =
     (sweep_room _ _ _ _ _ _ _ _ _ (ready h) c.requires l.following l.work l.at _ l.invariant.0 c.loop-word-test.true)
 
 -- the exact kernel stays that of its row, and the block's work is the definition's
+-- the exact kernel stays that of its row, and the block's work is the definition's
 pub loop-word-preserved : goal.loop-word-preserved
 loop-word-preserved c =
     let h = (goal.at.loop-word-preserved c).After-odd_columns in
@@ -186,28 +173,22 @@ loop-word-preserved c =
     let b = block_of h in
     let s = c.survives-survives in
     let wrote = c.write_children-at in
-    let wide : Wide h j.wide j.bound × ServesNow h j.one_shape j.one × ServesNow h j.two_shape j.two =
+    let wide : IsWide h j.wide × ServesNow h j.one × ServesNow h j.two =
     elim j.branch [
       | then-odd_columns w ↦
-          let k = w.if-not-same_shape.one in
-          let own : Own h l.one_shape l.one w.if-not-same_shape.one_shape k =
-          elim w.if-not-same_shape.branch [ then-not-same_shape v ↦ inl (v.one_shape-is, v.one-is ∙ v.wide_kernel-one.ensures) | else-not-same_shape v ↦ inr (sym w.same_shape.ensures ∙ v.if-not-same_shape.false, v.one_shape-is, v.one-is) ] in
-          let o = one_now h w.if-not-same_shape.one_shape k own in (
-            (w.wide-is ∙ wide_radius_lem _ _ b k o.0, w.bound-is ∙ w.circle_population-bound.ensures ∙ people h _ k (wide_at _ _ b k o.0)),
-            serves_still _ _ _ _ _ j.one_shape _ j.one w.one_shape-is w.one-is o.1,
-            serves_still _ _ _ _ _ j.two_shape _ j.two w.two_shape-is w.two-is l.invariant.3,
+          let e = w.serve.ensures in (
+            subst (IsWide h) (sym w.wide-is) (is_wide h _ e.own _ w.circle_population.ensures),
+            subst (ServesNow h) (sym w.one-is) e.serves,
+            subst (ServesNow h) (sym w.two-is) l.invariant.3,
           )
       | else-odd_columns w ↦
-          let k = w.if-not-same_shape-2.two in
-          let own : Own h l.two_shape l.two w.if-not-same_shape-2.two_shape k =
-          elim w.if-not-same_shape-2.branch [ then-not-same_shape-2 v ↦ inl (v.two_shape-is, v.two-is ∙ v.wide_kernel-two.ensures) | else-not-same_shape-2 v ↦ inr (sym w.same_shape-else-odd_columns.ensures ∙ v.if-not-same_shape-2.false, v.two_shape-is, v.two-is) ] in
-          let t = two_now h w.if-not-same_shape-2.two_shape k own in (
-            (w.wide-is ∙ wide_radius_lem _ _ b k t.0, w.bound-is ∙ w.circle_population-bound-else-odd_columns.ensures ∙ people h _ k (wide_at _ _ b k t.0)),
-            serves_still _ _ _ _ _ j.one_shape _ j.one w.one_shape-is w.one-is l.invariant.2,
-            serves_still _ _ _ _ _ j.two_shape _ j.two w.two_shape-is w.two-is t.1,
+          let e = w.serve-else-odd_columns.ensures in (
+            subst (IsWide h) (sym w.wide-is) (is_wide h _ e.own _ w.circle_population-else-odd_columns.ensures),
+            subst (ServesNow h) (sym w.one-is) l.invariant.2,
+            subst (ServesNow h) (sym w.two-is) e.serves,
           )
     ] in
-    let bound_is : j.bound ≡ population m j.wide (probe b) = wide.0.1 ∙ ap (λ (x : Float). population m x (probe b)) (sym wide.0.0) in
+    let bound_is : j.wide.1 ≡ population m j.wide.0 (probe b) = wide.0.1 ∙ ap (λ (x : Float). population m x (probe b)) (sym wide.0.0) in
     let exact : KernelAt m.globe c.if-asks.exact.row c.args.km c.if-asks.exact =
     elim c.if-asks.branch [
       | then-asks w ↦
@@ -224,7 +205,7 @@ loop-word-preserved c =
           w.population-is ∙ w.circle_population-population.ensures ∙ people h _ w.if-ne.exact e
       | else-asks w ↦
           w.population-is ∙ bound_is
-          ∙ same_population m j.wide c.args.km (of_true _ (not_asked _ (eq j.wide c.args.km) _ c.asks.ensures w.if-asks.false yes)) (probe b)
+          ∙ same_population m j.wide.0 c.args.km (of_true _ (not_asked _ (eq j.wide.0 c.args.km) _ c.asks.ensures w.if-asks.false yes)) (probe b)
     ] in
     let seen : (bs : List Block) → work_of c.examined-work.result (cond s.result (bs ++ b ∷ []) bs) ≡ examine m c.args.km (work_of l.work bs) b = λ bs.
     ap (λ (x : ChunkWork). work_of x (cond s.result (bs ++ b ∷ []) bs)) c.examined-work.ensures

@@ -10,4 +10,5 @@ abbrev pub invariant-loop-word : goal.invariant-loop-word
 invariant-loop-word l =
     let g = l.map.globe in
     Sweeping g.grid g.angles.now g.cosines.now l.map.sums.now l.words l.km l.initial.work.held l.initial.following l.live l.following l.work l.at l.word-index
-    × KernelAt (globe_lent g) l.exact.row l.km l.exact × Serves g.grid g.angles.now g.cosines.now l.km l.one_shape l.one × Serves g.grid g.angles.now g.cosines.now l.km l.two_shape l.two
+    × KernelAt (globe_lent g) l.exact.row l.km l.exact
+    × Serves g.grid g.angles.now g.cosines.now l.km l.one.shape l.one.kernel × Serves g.grid g.angles.now g.cosines.now l.km l.two.shape l.two.kernel
