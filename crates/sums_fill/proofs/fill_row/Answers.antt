@@ -49,7 +49,7 @@ module _ (c : After-from-run) where
 
   -- the sum that it makes of the row
   run : c.loop-col.run + c.from-run.result ≡ sum_below (c.loop-col.col + 1) (λ k. get_or c.args.counts.now (c.args.row * w + k) 0)
-  run = omega (arith, rw c.columns-width.ensures.number at c.from-run.ensures, rw c.columns-width.ensures.number at c.loop-col.invariant.0, sum_plus_one c.loop-col.col (λ k. get_or c.args.counts.now (c.args.row * w + k) 0))
+  run = omega (arith, rw c.columns-width.ensures.number at c.from-run.ensures, c.loop-col.invariant.0, sum_plus_one c.loop-col.col (λ k. get_or c.args.counts.now (c.args.row * w + k) 0))
 
   run_small : c.loop-col.run + c.from-run.result ≤ most_columns * (2 ^ 32 - 1)
   unfolding count
@@ -71,7 +71,7 @@ unfolding count
 loop-col-preserved c =
     let d = (goal.at.loop-col-preserved c).After-from-run in
     let len = c.loop-col.auto.sums in
-    (rw c.columns-width.ensures.number (run d), rw (run d, c.columns-width.ensures.number, ← word_of_lem (m d)) (row_step (m d) _ c.loop-col.sums c.args.row c.loop-col.col (omega (arith, c.columns-width.ensures.number)) (omega (arith, len, length-set c.args.sums.now)) (words d)))
+    (run d, rw (run d, c.columns-width.ensures.number, ← word_of_lem (m d)) (row_step (m d) _ c.loop-col.sums c.args.row c.loop-col.col (omega (arith, c.columns-width.ensures.number)) (omega (arith, len, length-set c.args.sums.now)) (words d)))
 
 pub returns : goal.returns
 returns c =
