@@ -1,7 +1,7 @@
 // The whole job: its lines, one behind the other, in a lent buffer.
 #![tactic(auto)]
 
-ghost use Rattle.std.specs.Prelude.{◌≡◌, ◌+◌, ◌≤◌, ◌<◌, ◌^◌, length, set};
+ghost use Rattle.std.specs.Prelude.{◌≡◌, ◌+◌, ◌≤◌, ◌<◌, ◌^◌, length};
 ghost use Rattle.ledger.specs.State.{fresh_ledger};
 ghost use Rattle.job_lines.specs.State.{line_room, text_of};
 ghost use Rattle.job_rules.specs.Job.{job, most_bytes, program};
@@ -22,15 +22,6 @@ const PER_BYTE: usize = 48;
 // line.
 pub const MOST_OUTPUT: usize = PER_BYTE * MOST_BYTES + Line::LONGEST;
 
-// A place beyond the buffer holds nothing.
-fn put_byte(out: &mut [u8], place: usize, byte: u8)
-    ensures { out.new ≡ set out.old place byte }
-{
-    if place < out.len() {
-        out[place] = byte;
-    }
-}
-
 // The line from a place on, and the place after it.
 fn add_line(line: Line, out: &mut [u8], place: usize) -> usize
     requires { place + line_room < 2 ^ 64 }
@@ -40,7 +31,7 @@ fn add_line(line: Line, out: &mut [u8], place: usize) -> usize
     let n = line.len.min(Line::ROOM);
     let text = &line.bytes[..n];
     for (i, byte) in text.iter().enumerate() {
-        put_byte(out, place + i, *byte);
+        job_world::put(out, place + i, *byte);
     }
     place + n
 }

@@ -5,7 +5,7 @@ mod state;
 
 use grid::Grid;
 use ledger::Ledger;
-pub use state::{start, with_angle, with_cosine, with_count, with_grid, with_ledger};
+pub use state::{put, start, with_angle, with_cosine, with_count, with_grid, with_ledger};
 
 // The map under way and its ledger. Of the arrays the map takes as many places as its grid has; before G it takes none.
 // `begun` says whether G was read: an Option round the grid and the arrays would be no plainer, since they stand in the state, filled with

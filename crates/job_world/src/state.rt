@@ -48,8 +48,8 @@ pub fn with_grid(ledger: Ledger, grid: Grid) -> JobState
     }
 }
 
-// A place beyond the array holds nothing.
-fn put<T: Copy>(xs: &mut [T], place: usize, x: T)
+// A value at a place, in an array of a state or in a job's output. A place beyond it holds nothing.
+pub fn put<T: Copy>(xs: &mut [T], place: usize, x: T)
     ensures { xs.new ≡ set xs.old place x }
 {
     if place < xs.len() {

@@ -9,7 +9,7 @@ pub loop-i-init : goal.loop-i-init
 loop-i-init c = from_nothing c.args.place c.args.out.now
 
 pub loop-i-preserved : goal.loop-i-preserved
-loop-i-preserved c = c.put_byte.ensures ∙ text_next c.args.place _ c.args.out.now c.loop-i.out c.loop-i.i (omega arith) c.loop-i.invariant
+loop-i-preserved c = c.put.ensures ∙ text_next c.args.place _ c.args.out.now c.loop-i.out c.loop-i.i (omega arith) c.loop-i.invariant
 
 pub returns : goal.returns
 returns c =
