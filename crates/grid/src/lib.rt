@@ -134,7 +134,7 @@ impl Grid {
         }
     }
 
-    // The column of a number, where the grid has it.
+    // The column of a number, where the grid has it. Beside `row`, and no generic one: each has a bound of its own and gives a type of its own.
     #[tactic(auto, unfolding(crate::specs::Grid::col_found))]
     pub fn col(self, index: u32) -> Option<Col>
         ensures { result ≡ col_found self index }

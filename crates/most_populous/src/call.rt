@@ -19,7 +19,8 @@ pub fn buffers_fit(grid: Grid, sums: &[u64], current: &[u64], following: &[u64])
     sums_fill::sums_fit(grid, sums) && cells <= current.len() && cells <= following.len()
 }
 
-// What the call's questions leave: its radius, or the first that is answered no. Question 8 is the radius's constructor.
+// What the call's questions leave: its radius, or the first that is answered no. Question 8 is the radius's
+// constructor. Beside `circle_rules::circle_asked`, whose buffers and last question are others.
 #[tactic(auto, using(grid::proofs::Answers::refused_stands), unfolding(crate::specs::Call::search_questions))]
 fn search_asked(
     map: &Map<'_>,
