@@ -13,7 +13,7 @@ use kernel::Kernel;
 pub const RADIAN: f64 = 0.017453292519943295;
 
 // The largest finite number.
-const LARGEST: f64 = 1.7976931348623157e308;
+const LARGEST: f64 = f64::MAX;
 
 // What covers the roundings of a slack. In a block of one column, or of one row on the equator, the two hops are the distance itself and
 // leave nothing to spare: rounded down, they would shut out a cell that is within reach. A slack has a handful of roundings and loses

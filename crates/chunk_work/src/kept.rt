@@ -1,4 +1,4 @@
-// The kernels at hand: for which blocks they serve, and which of them is wanted next.
+// Which kernel is wanted next, and for which blocks one serves.
 ghost use Rattle.std.specs.Prelude.{◌≡◌, ◌&&◌, eqb};
 ghost use Rattle.std.specs.Float.Ieee.{eq};
 ghost use Rattle.chunk_work.specs.State.{no_shape, odd_columns};
@@ -13,7 +13,8 @@ pub(crate) fn same_kernel(row: Row, km: f64, next: Row, wanted: f64) -> bool
     row == next && km == wanted
 }
 
-// The shape of no block: its south row lies north of its north row.
+// The shape of no block: its south row lies north of its north row. A block and no Option: one comparison of shapes then says whether a kernel
+// serves, also before any block, and what it says is the definition's `same_shape`.
 #[tactic(auto, unfolding(crate::specs::State::no_shape))]
 pub fn no_shape() -> Block
     ensures { result ≡ no_shape }

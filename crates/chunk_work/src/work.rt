@@ -79,7 +79,8 @@ fn evaluated(work: ChunkWork, block: Block, wide: f64, population: u64) -> Chunk
     }
 }
 
-// A chunk after a block of this wide radius: a survivor's probe has this population.
+// A chunk after a block of this wide radius: a survivor's probe has this population. A flag beside it and no Option: of a block that is pruned the
+// population is its bound, which the caller has at hand and nobody reads.
 pub fn examined(
     work: ChunkWork,
     block: Block,

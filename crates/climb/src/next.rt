@@ -38,7 +38,8 @@ impl Bracket {
         }
     }
 
-    // The next kilometre to probe. The middle is written out, since `blocks::middle` is of a crate that the climb knows nothing of.
+    // The next kilometre to probe. The middle is written out, as in `blocks::middle`: the
+    // definition says low where high lies below it, and the library's `midpoint` does not.
     pub fn radius(self) -> RadiusKm
         ensures { result.0 ≡ next_radius self }
     {

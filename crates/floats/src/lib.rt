@@ -1,4 +1,6 @@
-// The operations on binary64 that the Rust has beyond the operators, each equal to its definition at every value.
+// The operations on binary64 that the Rust has beyond the operators, each equal to its definition at every value. Those that only call the
+// library's stand here since their contracts are in the definitions' words (`absolute`, `finite`, `next_up`): a caller that called the
+// library's would prove that anew.
 #![tactic(auto)]
 
 ghost use Rattle.std.specs.Prelude.{◌≡◌};

@@ -8,7 +8,7 @@ ghost use Rattle.std.specs.Prelude.{◌≡◌, ◌+◌, ◌<◌, ◌^◌};
 ghost use Rattle.grid.specs.Grid.{row_found, col_found, radius_found, centre_lat, closing};
 
 pub use places::{
-    HALF_TURN, angle_of, arc_km, before, body_radius, ceiling, cells, closing, on_grid, sheet_index,
+    HALF_TURN, angle_of, arc_km, body_radius, ceiling, cells, closing, on_grid, sheet_index,
 };
 pub use refusal::Refusal;
 

@@ -1,6 +1,6 @@
 // Places and distances on the grid: cells, the sheet's places, the angle of a radius and the length of an arc.
 ghost use Rattle.std.specs.Prelude.{◌≡◌};
-ghost use Rattle.grid.specs.Grid.{body_radius, ceiling, angle_of, arc_km, on_grid, cells, before, closing};
+ghost use Rattle.grid.specs.Grid.{body_radius, ceiling, angle_of, arc_km, on_grid, cells, closing};
 ghost use Rattle.grid.specs.Map.{sheet_index};
 ghost use Rattle.grid.specs.Requires.{InSheet};
 
@@ -55,14 +55,6 @@ pub fn cells(grid: Grid) -> usize
     ensures { result ≡ cells grid }
 {
     grid.columns() * grid.rows()
-}
-
-// Whether x stands before y by row, then column: of cells alike in everything else the first is taken.
-#[tactic(auto, unfolding(crate::specs::Grid::before))]
-pub fn before(x: Cell, y: Cell) -> bool
-    ensures { result ≡ before x y }
-{
-    x < y
 }
 
 // The largest column distance around the ring: from there on columns come nearer on the other side.

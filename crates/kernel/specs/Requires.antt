@@ -31,7 +31,7 @@ pub record RunsJoined (k : Kernel) : Type 0 where
   pub within : (r : ℕ) → k.north.0 ≤ r → r < k.end → get_or k.run r 0 ≤ k.end
   pub alike : (r : ℕ) → k.north.0 ≤ r → r < k.end → (i : ℕ) → r ≤ i → i < get_or k.run r 0 → get_or k.reach i 0 ≡ get_or k.reach r 0
 
--- a kernel and a column of one grid, whose sums a table holds
+-- a kernel and a column of one grid
 pub record CanSum (g : Grid) (k : Kernel) (col : Col) : Type 0 where
   pub band : Banded g k
   pub runs : RunsJoined k

@@ -16,7 +16,8 @@ pub fn circle_population(table: Table<'_>, kernel: &Kernel, col: Col) -> u64
     requires { CanSum table.grid kernel.now col }
     ensures { result ≡ kernel_population (table_map table.entry.grid table.entry.sums.now) kernel.now col }
 {
-    // No `for`: a turn goes on where its run ends, which the buffer of runs says. Rows are numbers of 32 bits here, and index by `as`.
+    // No `for`: a turn goes on where its run ends, which the buffer of runs says. A row is a number here, since a run's end is
+    // read as one; it indexes by `as`, since no From leads from u32 to usize.
     let mut population: u64 = 0;
     let mut row = kernel.north.0;
     while row < kernel.end {

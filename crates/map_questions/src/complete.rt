@@ -5,7 +5,7 @@ ghost use Rattle.grid.specs.Questions.{counts_complete, sheet_complete};
 
 use grid::{Globe, Grid};
 
-// Question 4: a count for every cell.
+// Question 4: a count for every cell. Lent a grid and counts and no map, since a caller may have no sheet.
 #[tactic(auto, unfolding(grid::specs::Questions::counts_complete))]
 pub fn counts_complete(grid: Grid, counts: &[u32]) -> bool
     ensures { result ≡ counts_complete (lent_map grid counts.now [] []) }

@@ -5,7 +5,7 @@ ghost use Rattle.floats.specs.Binary.{whole};
 ghost use Rattle.grid.specs.Map.{globe_of, globe_lent};
 ghost use Rattle.grid.specs.Questions.{sheet_complete, cosines_in_range, sheet_in_order};
 
-use grid::{Globe, Grid};
+use grid::Globe;
 
 // Above 0 and at most 1.
 #[tactic(auto, using(floats::proofs::Literals::literal_0, floats::proofs::Literals::literal_1))]
@@ -16,11 +16,11 @@ fn cosine_in_range(x: f64) -> bool
 }
 
 // Every row's cosine is in range.
-fn cosines_in_range(grid: Grid, cosines: &[f64]) -> bool
-    requires { length cosines.now ≡ grid.height }
-    ensures { result ≡ cosines_in_range (globe_of grid [] cosines.now) }
+fn cosines_in_range(globe: &Globe<'_>) -> bool
+    requires { length globe.now.cosines.now ≡ globe.now.grid.height }
+    ensures { result ≡ cosines_in_range (globe_lent globe.now) }
 {
-    cosines.iter().all(|x| cosine_in_range(*x))
+    globe.cosines.iter().all(|x| cosine_in_range(*x))
 }
 
 // Question 6, of a sheet that has passed question 5: cosines and angles in range, and angles that do not fall away from the centre.
@@ -29,5 +29,5 @@ pub fn sheet_in_order(globe: &Globe<'_>) -> bool
     requires { sheet_complete (globe_lent globe.now) ≡ true }
     ensures { result ≡ sheet_in_order (globe_lent globe.now) }
 {
-    cosines_in_range(globe.grid, globe.cosines) && sheet::angles_in_order(globe.grid, globe.angles)
+    cosines_in_range(globe) && sheet::angles_in_order(globe.grid, globe.angles)
 }

@@ -23,6 +23,7 @@ pub fn reach_by_halves(globe: &Globe<'_>, centre: Row, row: Row, limit: f64) -> 
 {
     let Globe { grid, angles, .. } = *globe;
     let first = grid::sheet_index(grid, centre, row, 0);
+    // One past the last offset, half the width, from which `reach_of` begins too: `Grid::offsets` would hide the last of the two.
     let end = first + grid.columns() / 2 + 1;
     angles[first..end].partition_point(|angle| within(*angle, limit)) as u8
 }
@@ -74,7 +75,8 @@ fn reach_of(globe: &Globe<'_>, centre: Row, row: Row, limit: f64, guess: u8) -> 
     shrunk(angles, first, limit, from) as u8
 }
 
-// The reaches of the rows north of the centre row, up to the first row missed. Gives the northernmost row touched.
+// The reaches of the rows north of the centre row, up to the first row missed. Gives the northernmost row touched. A row is a number here,
+// since it counts the walk; a Row is made of it for the call.
 #[tactic(auto, using(crate::proofs::Walks::filled_none))]
 pub fn walk_north(
     globe: &Globe<'_>,
@@ -99,7 +101,7 @@ pub fn walk_north(
 }
 
 // The reaches of the centre row and those south of it, up to the first row missed, whose number it gives. A function of its own beside
-// `walk_north`: one over any iterator of rows would be asked for each walk's end, and for the band that its rows make, again.
+// `walk_north`: one over any iterator of rows would be no shorter, since each walk gives another end, and its contract and proof would be by case.
 #[tactic(auto, using(crate::proofs::Walks::filled_none))]
 pub fn walk_south(
     globe: &Globe<'_>,

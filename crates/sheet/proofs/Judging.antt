@@ -464,9 +464,9 @@ and_five false b c d e = refl
 -- question 6, as the code reads it: the cosines by themselves, then the angles
 pub order_as_read : (g : Grid) (angles cosines : List Float) → length angles ≡ angle_count g
     → sheet_in_order (globe_of g angles cosines)
-    ≡ (cosines_in_range (globe_of g [] cosines) && judged g angles)
+    ≡ (cosines_in_range (globe_of g angles cosines) && judged g angles)
 unfolding sheet_in_order every_row every_pair cosine_in_range cosines_in_range cosine_at angles_in_range own_angle_zero angles_rise rows_rise angle_in_range angle_rises row_rises angle_at
 order_as_read g angles cosines size =
     let s = sheet_of g angles in
     rw (judge_says g angles size)
-    (and_five (cosines_in_range (globe_of g [] cosines)) (angles_in_range s) (own_angle_zero s) (angles_rise s) (rows_rise s))
+    (and_five (cosines_in_range (globe_of g angles cosines)) (angles_in_range s) (own_angle_zero s) (angles_rise s) (rows_rise s))

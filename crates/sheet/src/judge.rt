@@ -209,6 +209,7 @@ impl SheetJudge {
 }
 
 // What the judge says of a whole sheet. After a run that does not fit no angle is read: what is refused stays refused.
+// Lent the angles and no globe: of cosines it says nothing, and the judge is fed angles where no sheet is held.
 pub fn angles_in_order(grid: Grid, angles: &[f64]) -> bool
     requires { length angles.now ≡ angle_count grid }
     ensures { result ≡ judged grid angles.now }

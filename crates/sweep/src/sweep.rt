@@ -86,7 +86,7 @@ pub(crate) fn chunk(
     for word in words {
         let block = Block::from(*word);
         let p = blocks::probe(block);
-        // Each branch asks for itself: of a kernel that is chosen first a search takes 1 to 3 in 100 more instructions.
+        // Each branch asks for itself: where the kernel is chosen first and asked once, a search takes 1 to 3 in 100 more instructions.
         let (wide, bound) = if chunk_work::odd_columns(block) {
             one.serve(map, km, block);
             (one.kernel.km, circle_population(table, &one.kernel, p.col))

@@ -9,5 +9,5 @@ use Rattle.map_questions.proofs.order.cosines_in_range.Goals as goal
 pub returns : goal.returns
 unfolding every_row cosine_in_range cosines_in_range cosine_at
 returns c =
-    all_ranged c.args.cosines.now c.args.grid.height c.all.result c.requires
-    (cases_from_all _ _ _ (λ x. ranged x ≡ true) (λ x. ranged x ≡ false) c.all.ensures.ran (YieldsList-from_slice c.args.cosines.now cc) (λ x q k. search rules) (λ x q k. search rules))
+    all_ranged c.args.globe.now.cosines.now c.args.globe.now.grid.height c.all.result c.requires
+    (cases_from_all _ _ _ (λ x. ranged x ≡ true) (λ x. ranged x ≡ false) c.all.ensures.ran (YieldsList-from_slice c.args.globe.now.cosines.now cc) (λ x q k. search rules) (λ x q k. search rules))
