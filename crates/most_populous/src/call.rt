@@ -10,7 +10,8 @@ use levels::SummedMap;
 use search_rules::{LevelBuffers, MostPopulous};
 use spacing::Spacing;
 
-// Question 7: room for the sums, and a word for each cell in both level buffers.
+// Question 7: room for the sums, and a word for each cell in both level buffers. The three stand apart here and in the calls, as C lends them:
+// a struct of all three would be taken apart at once, the sums to be filled and the level buffers to be lent on.
 #[tactic(auto, unfolding(crate::specs::Call::buffers_fit))]
 pub fn buffers_fit(grid: Grid, sums: &[u64], current: &[u64], following: &[u64]) -> bool
     ensures { result ≡ buffers_fit grid (buffers sums.now current.now following.now) }
