@@ -5,6 +5,7 @@ ghost use Rattle.std.specs.Prelude.{◌≡◌};
 ghost use Rattle.levels.specs.State.{summed_lent};
 ghost use Rattle.probes.specs.Requires.{CanRun};
 ghost use Rattle.probes.specs.State.{ran, ran_with};
+ghost use Rattle.search_rules.specs.State.{SameLengths};
 
 use climb::Bracket;
 use ledger::Ledger;
@@ -14,7 +15,8 @@ use search_rules::LevelBuffers;
 use share::Aim;
 use spacing::Spacing;
 
-// The run from a ledger with room for every probe: where it ends, and the lent ledger with every circle that it searched.
+// The run from a ledger with room for every probe: where it ends, and the lent ledger with every circle that it searched. The
+// level buffers keep their lengths.
 pub fn run(
     map: &SummedMap<'_>,
     buffers: &mut LevelBuffers<'_>,
@@ -23,10 +25,12 @@ pub fn run(
     ledger: &mut Ledger,
 ) -> RunEnd
     requires { CanRun (summed_lent map.now) buffers.old aim ledger.old }
-    ensures { ran_with result ledger.new ≡ ran (summed_lent map.now) spacing aim.target.share ledger.old }
+    ensures lengths { SameLengths buffers.old buffers.new }
+    ensures ended { ran_with result ledger.new ≡ ran (summed_lent map.now) spacing aim.target.share ledger.old }
 {
     let mut state = run_state::begun(aim.total);
     let mut bracket = Bracket::start();
+    // Which radius comes next is known only from whether the one before reached: there is nothing to count by.
     while !bracket.closed() {
         let km = bracket.radius();
         match ledger_store::get(ledger, km) {

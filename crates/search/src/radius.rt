@@ -3,6 +3,7 @@ ghost use Rattle.std.specs.Prelude.{◌≡◌};
 ghost use Rattle.search_rules.specs.Search.{search};
 ghost use Rattle.levels.specs.State.{summed_lent};
 ghost use Rattle.search_rules.specs.Requires.{TwoBuffers};
+ghost use Rattle.search_rules.specs.State.{SameLengths};
 
 use crate::descend;
 use grid::RadiusKm;
@@ -10,7 +11,8 @@ use levels::SummedMap;
 use search_rules::{LevelBuffers, MostPopulous};
 use spacing::Spacing;
 
-// The search of a map whose questions are answered and whose sums are filled; the level buffers are left as they come.
+// The search of a map whose questions are answered and whose sums are filled. The level buffers keep their lengths; their words are
+// left as they come.
 pub fn search_at(
     map: &SummedMap<'_>,
     buffers: &mut LevelBuffers<'_>,
@@ -18,7 +20,7 @@ pub fn search_at(
     spacing: Spacing,
 ) -> MostPopulous
     requires { TwoBuffers map.now.globe.grid buffers.old.current.now buffers.old.following.now }
-    ensures room { TwoBuffers map.now.globe.grid buffers.new.current.now buffers.new.following.now }
+    ensures lengths { SameLengths buffers.old buffers.new }
     ensures found { result ≡ search (summed_lent map.now) spacing km.0 }
 {
     if km.0 == 0 {

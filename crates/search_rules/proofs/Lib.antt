@@ -2,3 +2,4 @@
 pub mod Levels
 pub mod Search
 pub mod Places
+pub mod Lengths

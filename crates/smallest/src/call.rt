@@ -5,6 +5,7 @@ ghost use Rattle.grid.specs.Refusal.{answer_of};
 ghost use Rattle.grid.specs.Map.{map_lent};
 ghost use Rattle.levels.specs.State.{summed_lent};
 ghost use Rattle.most_populous.specs.Call.{buffers};
+ghost use Rattle.search_rules.specs.State.{SameLengths};
 ghost use Rattle.probes.specs.Smallest.{smallest};
 ghost use Rattle.smallest_rules.specs.Call.{smallest_questions, smallest_gave, smallest_call};
 ghost use Rattle.smallest.specs.Requires.{CanSettle};
@@ -28,7 +29,8 @@ fn settle(
     ledger: &mut Ledger,
 ) -> Smallest
     requires { CanSettle map.now.globe.grid buffers.old ledger.old }
-    ensures { IsSettled
+    ensures lengths { SameLengths buffers.old buffers.new }
+    ensures settled { IsSettled
         (smallest (summed_lent map.now) spacing share ledger.old)
         result ledger.new }
 {

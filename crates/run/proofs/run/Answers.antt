@@ -1,8 +1,9 @@
 -- `run::run`: a turn opens the bracket, its probe is reused or searched, and the next bracket is one probe on.
-use mathlib.Core.Path.{◌≡◌, sym, ◌∙◌}
+use mathlib.Core.Path.{◌≡◌, refl, sym, ◌∙◌}
 use Prim.Native.Nat.{◌+◌}
 use Rattle.levels.specs.State.{summed_lent}
-use Rattle.search_rules.specs.Requires.{TwoBuffers}
+use Rattle.search_rules.specs.State.{SameLengths}
+use Rattle.search_rules.proofs.Lengths.{lengths_then, room_stays}
 use Rattle.probes.specs.State.{probe_count}
 use Rattle.probes.proofs.Probes.{ProbedTo, after_reuse, after_search}
 use Rattle.run.proofs.RunLoop.{Looping, loop_starts, loop_reuses, loop_puts, loop_evaluates, loop_fits, loop_goes_on, loop_falls, loop_ends}
@@ -10,12 +11,16 @@ use Rattle.run.proofs.run.Goals as goal
 use Rattle.run.proofs.run.Goals.{After-next-bracket, in-Some, in-None}
 
 pub loop-spacing-init : goal.loop-spacing-init
-loop-spacing-init c = (loop_starts c.args.map.now c.requires c.args.spacing c.begun-state.ensures c.start-bracket.ensures, c.requires.buffers)
+loop-spacing-init c =
+    (loop_starts c.args.map.now c.requires c.args.spacing c.begun-state.ensures c.start-bracket.ensures, record { current = refl; following = refl })
 
 pub reused-state-requires : goal.reused-state-requires
 reused-state-requires c =
     loop_reuses c.args.map.now c.requires c.args.spacing c.loop-spacing.invariant.0 (sym c.closed.ensures ∙ c.loop-spacing-test.true) c.radius-km.result.0
     (sym c.get.ensures ∙ c.in-Some.is)
+
+pub search_at-found-requires : goal.search_at-found-requires
+search_at-found-requires c = room_stays _ c.requires.buffers c.loop-spacing.invariant.1
 
 pub put-requires : goal.put-requires
 put-requires c =
@@ -53,9 +58,16 @@ loop-spacing-smaller c =
 
 pub loop-spacing-preserved : goal.loop-spacing-preserved
 loop-spacing-preserved c =
-    let room : TwoBuffers c.args.map.now.globe.grid c.match-get.buffers.current.now c.match-get.buffers.following.now =
-    elim c.match-get.branch [ in-Some w ↦ rw w.buffers-is c.loop-spacing.invariant.1 | in-None w ↦ rw w.buffers-is w.search_at-found.ensures.room ] in
-    ((next (goal.at.loop-spacing-preserved c).After-next-bracket).0, room)
+    let lengths : SameLengths c.args.buffers.now c.match-get.buffers =
+    elim c.match-get.branch [
+      | in-Some w ↦ rw w.buffers-is c.loop-spacing.invariant.1
+      | in-None w ↦ rw w.buffers-is (lengths_then c.loop-spacing.invariant.1 w.search_at-found.ensures.lengths)
+    ] in
+    ((next (goal.at.loop-spacing-preserved c).After-next-bracket).0, lengths)
 
-pub returns : goal.returns
-returns c = loop_ends c.args.map.now c.requires c.args.spacing c.loop-spacing.invariant.0 (sym c.closed.ensures ∙ c.loop-spacing-test.false) c.end_of.ensures
+pub returns-clause-lengths : goal.returns-clause-lengths
+returns-clause-lengths c = c.loop-spacing.invariant.1
+
+pub returns-clause-ended : goal.returns-clause-ended
+returns-clause-ended c =
+    loop_ends c.args.map.now c.requires c.args.spacing c.loop-spacing.invariant.0 (sym c.closed.ensures ∙ c.loop-spacing-test.false) c.end_of.ensures

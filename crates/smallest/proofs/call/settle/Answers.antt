@@ -8,9 +8,10 @@ run-end-requires c =
 
 pub conclude-requires : goal.conclude-requires
 conclude-requires c =
-    can_conclude c.args.map.now c.requires c.args.spacing c.whole-total.ensures c.target_of-target.ensures c.predicate_slack_persons-slack.ensures c.run-end.ensures
+    can_conclude c.args.map.now c.requires c.args.spacing c.whole-total.ensures c.target_of-target.ensures c.predicate_slack_persons-slack.ensures
+    c.run-end.ensures.ended
 
-pub returns : goal.returns
-returns c =
-    is_settled c.args.map.now c.requires c.args.spacing c.whole-total.ensures c.target_of-target.ensures c.predicate_slack_persons-slack.ensures c.run-end.ensures
-    c.conclude.ensures
+pub returns-clause-settled : goal.returns-clause-settled
+returns-clause-settled c =
+    is_settled c.args.map.now c.requires c.args.spacing c.whole-total.ensures c.target_of-target.ensures c.predicate_slack_persons-slack.ensures
+    c.run-end.ensures.ended c.conclude.ensures

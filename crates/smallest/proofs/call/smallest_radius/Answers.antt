@@ -43,5 +43,5 @@ pub returns : goal.returns
 returns c =
     let e = (goal.at.returns c).In_ok-smallest_asked in
     let f = c.fill_sums in
-    smallest_answered _ _ _ _ _ c.settle.result _ _ _ _ (none_left e) (settled_map _ _ _ _ _ (passed e) _ f.ensures.filled c.settle.ensures)
+    smallest_answered _ _ _ _ _ c.settle.result _ _ _ _ (none_left e) (settled_map _ _ _ _ _ (passed e) _ f.ensures.filled c.settle.ensures.settled)
     (f.ensures.filled ∙ bare_filled (given e) _) (search rules) (search rules)
