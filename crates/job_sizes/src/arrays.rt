@@ -4,8 +4,8 @@ ghost use Rattle.grid.specs.Grid.{closing};
 ghost use Rattle.grid.specs.Map.{sheet_index};
 ghost use Rattle.job_sizes.specs.Sizes.{job_angles, places_of};
 
-use crate::{ANGLES, CELLS, Places, ROWS};
-use grid::{Cell, Grid, Row};
+use crate::{ANGLES, AngleIndices, CELLS, Places, ROWS};
+use grid::{Cell, Grid};
 
 // The place in the sheet of a pair of rows and an offset, or the array's length for any place beyond it. A pair that far out is not multiplied,
 // since the product may need more than 64 bits. The length is no None: put there holds nothing, as for every place beyond an array, so that the
@@ -43,9 +43,9 @@ pub fn count_place(grid: Grid, cell: Cell) -> usize
 
 // The place of an angle in the sheet, or the array's length for any place beyond it.
 #[tactic(auto, unfolding(grid::specs::Map::sheet_index))]
-pub fn angle_place(grid: Grid, centre: Row, row: Row, offset: u32) -> usize
-    ensures { result ≡ min (sheet_index grid centre row offset) job_angles }
+pub fn angle_place(grid: Grid, at: AngleIndices) -> usize
+    ensures { result ≡ min (sheet_index grid at.centre at.row at.offset) job_angles }
 {
-    let pair = usize::from(centre) * grid.rows() + usize::from(row);
-    sheet_place(grid, pair, offset)
+    let pair = usize::from(at.centre) * grid.rows() + usize::from(at.row);
+    sheet_place(grid, pair, at.offset)
 }
