@@ -1,5 +1,5 @@
 // Which of two candidates is better, and whether a bound prunes.
-ghost use Rattle.std.specs.Prelude.{◌≡◌, ltb};
+ghost use Rattle.std.specs.Prelude.{◌≡◌};
 ghost use Rattle.candidates.specs.Candidate.{centre_of, better, better_held, prunes};
 
 use crate::Candidate;

@@ -6,7 +6,6 @@ ghost use Rattle.crossings.specs.Crossing.{grid_from, spacing_from};
 ghost use Rattle.crossings.specs.Calls.{search_returned, search_crossing};
 
 use grid::{Globe, Grid, Map};
-use spacing::Spacing;
 
 // Exported to C by crates/jadurphen_c: the most populous circle of a radius, as words, and the tolerance in persons.
 pub fn jadurphen_search(

@@ -1,8 +1,6 @@
 // Numbers at a place of a command's operands, the least byte first.
 ghost use Rattle.std.specs.Prelude.{◌≡◌, ◌+◌, ◌≤◌, ◌<◌, length, take, drop};
-ghost use Rattle.job_commands.specs.Command.{number, float, row_at};
-
-use grid::Row;
+ghost use Rattle.job_commands.specs.Command.{float};
 
 // So many bytes, of which `from_le_bytes` makes a number.
 pub(crate) fn bytes_at<const N: usize>(bytes: &[u8], at: usize) -> [u8; N]

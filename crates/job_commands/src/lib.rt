@@ -7,7 +7,8 @@ mod decoding;
 pub use decoding::decode;
 use grid::{Cell, Grid, Row};
 
-// Spacings of 0 are automatic.
+// A spacing is the number in the job's bytes, and no `spacing::Spacing`: this crate knows nothing of a search, and that 0 is automatic is said where a
+// command runs, by `job_step::spacing_of`.
 #[derive(Clone, Copy)]
 pub enum Command {
     SetGrid(Grid),

@@ -21,7 +21,8 @@ pub fn blank() -> Line
     }
 }
 
-// The line with more bytes behind it.
+// The line with more bytes behind it. By hand and not by `write!`, which promises the text on success alone, and a job's line may not fail;
+// there is no heap for a String either, so that a line is an array with its length.
 fn append(mut line: Line, more: &[u8]) -> Line
     requires { line.len + length more.now ≤ line_room }
     ensures { result ≡ longer line more.now }

@@ -4,10 +4,12 @@ ghost use Rattle.grid.specs.Grid.{closing};
 ghost use Rattle.grid.specs.Map.{sheet_index};
 ghost use Rattle.job_sizes.specs.Sizes.{job_angles, places_of};
 
-use crate::{ANGLES, CELLS, Places, ROWS};
-use grid::{Cell, Grid, Row};
+use crate::{ANGLES, AngleIndices, CELLS, Places, ROWS};
+use grid::{Cell, Grid};
 
-// The place in the sheet of a pair of rows and an offset, or the array's length for any place beyond it: no product is made of a pair so far.
+// The place in the sheet of a pair of rows and an offset, or the array's length for any place beyond it. A pair that far out is not multiplied,
+// since the product may need more than 64 bits. The length is no None: put there holds nothing, as for every place beyond an array, so that the
+// callers need no case.
 #[tactic(auto, using(crate::proofs::Held::beyond))]
 fn sheet_place(grid: Grid, pair: usize, offset: u32) -> usize
     ensures { result ≡ min (pair * (closing grid + 1) + offset) job_angles }
@@ -19,7 +21,7 @@ fn sheet_place(grid: Grid, pair: usize, offset: u32) -> usize
     (pair * grid.offsets() + offset as usize).min(ANGLES)
 }
 
-// How many places of each array the map takes. Its angles are those before a pair past the last one.
+// How many places of each array the map takes. Its rows make height * height pairs, and its angles end where those of one more pair would begin.
 #[tactic(auto, unfolding(crate::specs::Sizes::places_of))]
 pub fn places_of(grid: Grid) -> Places
     ensures { result ≡ places_of grid }
@@ -41,9 +43,9 @@ pub fn count_place(grid: Grid, cell: Cell) -> usize
 
 // The place of an angle in the sheet, or the array's length for any place beyond it.
 #[tactic(auto, unfolding(grid::specs::Map::sheet_index))]
-pub fn angle_place(grid: Grid, centre: Row, row: Row, offset: u32) -> usize
-    ensures { result ≡ min (sheet_index grid centre row offset) job_angles }
+pub fn angle_place(grid: Grid, at: AngleIndices) -> usize
+    ensures { result ≡ min (sheet_index grid at.centre at.row at.offset) job_angles }
 {
-    let pair = usize::from(centre) * grid.rows() + usize::from(row);
-    sheet_place(grid, pair, offset)
+    let pair = usize::from(at.centre) * grid.rows() + usize::from(at.row);
+    sheet_place(grid, pair, at.offset)
 }

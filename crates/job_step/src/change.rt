@@ -87,7 +87,7 @@ pub(crate) fn set_angle(
     ensures { settled_in state result ≡ later_in state (SetAngle centre row offset angle) }
 {
     let at = job_sizes::angle_on(state.grid, centre, row, offset).ok_or(Refusal::Index)?;
-    Ok(changed(job_world::with_angle(state, at.centre, at.row, at.offset, angle)))
+    Ok(changed(job_world::with_angle(state, at, angle)))
 }
 
 // E: no line, and the last command.

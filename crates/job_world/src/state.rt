@@ -5,6 +5,7 @@ ghost use Rattle.job_world.specs.State.{start_state, grid_state, count_state, co
 
 use crate::JobState;
 use grid::{Cell, Grid, Row};
+use job_sizes::AngleIndices;
 use ledger::Ledger;
 
 // The state before any command: a grid of no cells, counts and angles of 0, cosines of 1.
@@ -78,10 +79,10 @@ pub fn with_cosine(mut state: JobState, row: Row, cosine: f64) -> JobState
 }
 
 // The state after A.
-pub fn with_angle(mut state: JobState, centre: Row, row: Row, offset: u32, angle: f64) -> JobState
-    ensures { result ≡ angle_state state centre row offset angle }
+pub fn with_angle(mut state: JobState, at: AngleIndices, angle: f64) -> JobState
+    ensures { result ≡ angle_state state at.centre at.row at.offset angle }
 {
-    let place = job_sizes::angle_place(state.grid, centre, row, offset);
+    let place = job_sizes::angle_place(state.grid, at);
     put(&mut state.angles, place, angle);
     with_ledger(state, emptied(state.ledger))
 }

@@ -7,7 +7,6 @@ mod text;
 
 use damage::Tally;
 use std::alloc::{AllocError, Global};
-use std::rt::Files;
 use std::{fs, io};
 
 // The jobs of a list, and what damaged copies printed.
