@@ -9,8 +9,9 @@ use grid::Grid;
 use levels::SummedMap;
 use search_rules::SearchResult;
 
-// The grid's first blocks in probe order, and how many they are. Here and in `searched` the two buffers are lent one by one and not as
-// LevelBuffers: one is read while the other is written, and of a field that is read so the prover does not know the length afterwards.
+// The grid's first blocks in probe order, and how many they are. Here and in `searched` the buffers are lent as two slices: by LevelBuffers
+// it is no plainer. One is read while the other is written, so each function would first take both out of the struct (`&mut *`), and lend
+// each once more whole (`&*`) before it reads a part of it; without that the prover loses the length of the buffer that was read.
 fn first_level(grid: Grid, spacing: u32, current: &mut [u64], following: &mut [u64]) -> usize
     requires { TwoBuffers grid current.old following.old }
     ensures { FirstLevel grid spacing current.new result }
