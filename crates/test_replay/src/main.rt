@@ -12,12 +12,12 @@ use std::{fs, io};
 // The most numbers of a line.
 const NUMBERS: usize = 17856;
 
-// The numbers of a line with n entries, or none.
-fn entries(n: u64) -> u64 {
+// The numbers of a line with n entries, where a ledger has room for as many.
+fn entries(n: u64) -> Option<u64> {
     if n <= test_cases::LEDGER_ENTRIES {
-        n * 4 + 1
+        Some(n * 4 + 1)
     } else {
-        0
+        None
     }
 }
 
@@ -34,7 +34,7 @@ fn is_whole(tag: u8, line: &[u64]) -> bool {
         b'G' => n == 5,
         b'M' => n == 11,
         b'R' => n == 27,
-        b'L' | b'E' => n == entries(test_lines::word_at(line, 0)),
+        b'L' | b'E' => entries(test_lines::word_at(line, 0)) == Some(n),
         _ => false,
     }
 }
