@@ -56,11 +56,8 @@ fn line_played(replay: &mut Replay, score: &mut Score, text: &[u8]) {
 
 // How many lines of a letter agree, and how many differ.
 fn compared(rt: &impl Print, words: &str, score: &Score, letter: u8) -> io::Result<()> {
-    let at = usize::from(letter);
-    println!(rt;
-        "{words} {} agree, {} differ",
-        score.agree[at], score.differ[at]
-    )
+    let seen = score.seen[usize::from(letter)];
+    println!(rt; "{words} {} agree, {} differ", seen.agree, seen.differ)
 }
 
 fn main(rt: HostRuntime) -> io::Result<()> {
@@ -70,7 +67,7 @@ fn main(rt: HostRuntime) -> io::Result<()> {
     for text in list.split_inclusive(|b| *b == b'\n') {
         line_played(&mut replay, &mut score, text);
     }
-    println!(rt; "maps {}", score.agree[usize::from(b'G')])?;
+    println!(rt; "maps {}", score.seen[usize::from(b'G')].agree)?;
     compared(&rt, "refused maps", &score, b'Q')?;
     compared(&rt, "circles", &score, b'P')?;
     compared(&rt, "spacings", &score, b'S')?;
