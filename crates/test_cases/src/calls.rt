@@ -32,7 +32,8 @@ pub fn circle(board: &Board, asked: &[u64], sums: &mut [u64], population: &mut u
     )
 }
 
-// A search.
+// A search. It and `smallest` are lent slices, as C lends them, and no `&mut Buffers`: that was tried, and the proof did not close, since of the three Vecs
+// after the call, each lent as a slice at once, no fact was found.
 pub fn search(
     board: &Board,
     km: u32,

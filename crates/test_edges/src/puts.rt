@@ -1,4 +1,5 @@
-// The put, by value through the C boundary and by lending.
+// The put, by value through the C boundary and by lending. Each returns the number that C is told, 0 or that of a refusal: it is what a list holds, so
+// that one line prints either and shows that they agree.
 use crate::ledgers::{self, Words};
 use crate::print;
 use candidates::Candidate;

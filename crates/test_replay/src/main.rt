@@ -12,12 +12,12 @@ use std::{fs, io};
 // The most numbers of a line.
 const NUMBERS: usize = 17856;
 
-// The numbers of a line with n entries, or none.
-fn entries(n: u64) -> u64 {
+// The numbers of a line with n entries, where a ledger has room for as many.
+fn entries(n: u64) -> Option<u64> {
     if n <= test_cases::LEDGER_ENTRIES {
-        n * 4 + 1
+        Some(n * 4 + 1)
     } else {
-        0
+        None
     }
 }
 
@@ -34,7 +34,7 @@ fn is_whole(tag: u8, line: &[u64]) -> bool {
         b'G' => n == 5,
         b'M' => n == 11,
         b'R' => n == 27,
-        b'L' | b'E' => n == entries(test_lines::word_at(line, 0)),
+        b'L' | b'E' => entries(test_lines::word_at(line, 0)) == Some(n),
         _ => false,
     }
 }
@@ -56,11 +56,8 @@ fn line_played(replay: &mut Replay, score: &mut Score, text: &[u8]) {
 
 // How many lines of a letter agree, and how many differ.
 fn compared(rt: &impl Print, words: &str, score: &Score, letter: u8) -> io::Result<()> {
-    let at = usize::from(letter);
-    println!(rt;
-        "{words} {} agree, {} differ",
-        score.agree[at], score.differ[at]
-    )
+    let seen = score.seen[usize::from(letter)];
+    println!(rt; "{words} {} agree, {} differ", seen.agree, seen.differ)
 }
 
 fn main(rt: HostRuntime) -> io::Result<()> {
@@ -70,7 +67,7 @@ fn main(rt: HostRuntime) -> io::Result<()> {
     for text in list.split_inclusive(|b| *b == b'\n') {
         line_played(&mut replay, &mut score, text);
     }
-    println!(rt; "maps {}", score.agree[usize::from(b'G')])?;
+    println!(rt; "maps {}", score.seen[usize::from(b'G')].agree)?;
     compared(&rt, "refused maps", &score, b'Q')?;
     compared(&rt, "circles", &score, b'P')?;
     compared(&rt, "spacings", &score, b'S')?;

@@ -1,9 +1,15 @@
-// What was seen of the list: by their letter lines that agree with the module and that differ, those not of the format,
-// and whether the last one is the list's end.
+// How many lines of a letter agree with the module, and how many differ.
+#[derive(Clone, Copy)]
+pub struct Seen {
+    pub agree: u64,
+    pub differ: u64,
+}
+
+// What was seen of the list: the lines by their letter, those not of the format, and whether the last one is the list's
+// end.
 #[derive(Drop)]
 pub struct Score {
-    pub agree: [u64; 256],
-    pub differ: [u64; 256],
+    pub seen: [Seen; 256],
     pub lines: u64,
     pub wrong: u64,
     pub ended: bool,
@@ -12,9 +18,12 @@ pub struct Score {
 impl Score {
     // Nothing seen.
     pub(crate) fn none() -> Score {
+        let none = Seen {
+            agree: 0,
+            differ: 0,
+        };
         Score {
-            agree: [0; 256],
-            differ: [0; 256],
+            seen: [none; 256],
             lines: 0,
             wrong: 0,
             ended: false,
@@ -36,12 +45,12 @@ impl Score {
         }
         self.lines = self.lines.wrapping_add(1);
         self.ended = tag == b'Z';
-        let seen = if agrees {
-            &mut self.agree
+        let seen = &mut self.seen[usize::from(tag)];
+        let lines = if agrees {
+            &mut seen.agree
         } else {
-            &mut self.differ
+            &mut seen.differ
         };
-        let at = usize::from(tag);
-        seen[at] = seen[at].wrapping_add(1);
+        *lines = lines.wrapping_add(1);
     }
 }
