@@ -8,8 +8,8 @@ use crate::{ANGLES, AngleIndices, CELLS, Places, ROWS};
 use grid::{Cell, Grid};
 
 // The place in the sheet of a pair of rows and an offset, or the array's length for any place beyond it. A pair that far out is not multiplied,
-// since the product may need more than 64 bits. The length is no None: put there holds nothing, as for every place beyond an array, so that the
-// callers need no case.
+// since the product may need more than 64 bits. The length is no None: what is put there changes nothing, as at every place beyond an array, so
+// that callers need no case.
 #[tactic(auto, using(crate::proofs::Held::beyond))]
 fn sheet_place(grid: Grid, pair: usize, offset: u32) -> usize
     ensures { result ≡ min (pair * (closing grid + 1) + offset) job_angles }
