@@ -82,6 +82,11 @@ module _ (s : JobState) where
       grid_begins {u} e p =
           gone_on_lem (SetGrid g) (says_yes _ 14 (grid_questions g) taken (sym (decide_yes _ _ (decided_yes _ _ _ e).0))) p refl
 
+    -- and a second one
+    pub second_grid : refused_in s 14 ≡ later_in s (SetGrid g)
+    unfolding in_world
+    second_grid = refused_by (SetGrid g) refl
+
   -- ---- C, K and A, by what was found of their indices on the grid
 
   module _ (x : Cell) (n : ℕ) where
