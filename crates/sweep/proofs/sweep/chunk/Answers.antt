@@ -163,7 +163,6 @@ write_children-at-requires c =
     (sweep_room _ _ _ _ _ _ _ _ _ (ready h) c.requires l.following l.work l.at _ l.invariant.0 c.loop-word-test.true)
 
 -- the exact kernel stays that of its row, and the block's work is the definition's
--- the exact kernel stays that of its row, and the block's work is the definition's
 pub loop-word-preserved : goal.loop-word-preserved
 loop-word-preserved c =
     let h = (goal.at.loop-word-preserved c).After-odd_columns in
