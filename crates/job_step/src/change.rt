@@ -18,7 +18,7 @@ use job_world::JobState;
 pub(crate) fn refuse(state: JobState, refusal: Refusal) -> Applied
     ensures { result ≡ refused_in state (refusal_number refusal) }
 {
-    let line = job_lines::refused_line(refusal);
+    let line = job_lines::refused_line(refusal.number());
     Applied {
         state,
         line,
