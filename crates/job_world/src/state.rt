@@ -59,23 +59,27 @@ pub fn put<T: Copy>(xs: &mut [T], place: usize, x: T)
 }
 
 // The state after C, a map under way whatever the state was: that a job has begun is the caller's test. The ledger is
-// emptied by C, K and A, because its circles are those of the map before.
-#[tactic(auto, unfolding(crate::specs::State::count_state, crate::specs::State::ledger_state))]
+// emptied by C, K and A, because its circles are those of the map before. Each changes the state in its place: a step's cost is what it copies.
+#[tactic(auto, unfolding(crate::specs::State::count_state, crate::specs::World::emptied))]
 pub fn with_count(mut state: JobState, cell: Cell, count: u32) -> JobState
     ensures { result ≡ count_state state cell count }
 {
     let place = job_sizes::count_place(state.grid, cell);
     put(&mut state.counts, place, count);
-    with_ledger(state, emptied(state.ledger))
+    state.begun = true;
+    state.ledger.len = 0;
+    state
 }
 
 // The state after K.
-#[tactic(auto, unfolding(crate::specs::State::cosine_state, crate::specs::State::ledger_state))]
+#[tactic(auto, unfolding(crate::specs::State::cosine_state, crate::specs::World::emptied))]
 pub fn with_cosine(mut state: JobState, row: Row, cosine: f64) -> JobState
     ensures { result ≡ cosine_state state row cosine }
 {
     put(&mut state.cosines, usize::from(row), cosine);
-    with_ledger(state, emptied(state.ledger))
+    state.begun = true;
+    state.ledger.len = 0;
+    state
 }
 
 // The state after A.
@@ -84,17 +88,17 @@ pub fn with_angle(mut state: JobState, at: AngleIndices, angle: f64) -> JobState
 {
     let place = job_sizes::angle_place(state.grid, at);
     put(&mut state.angles, place, angle);
-    with_ledger(state, emptied(state.ledger))
+    state.begun = true;
+    state.ledger.len = 0;
+    state
 }
 
 // The state after R: its ledger is the call's.
 #[tactic(auto, unfolding(crate::specs::State::ledger_state))]
-pub fn with_ledger(state: JobState, ledger: Ledger) -> JobState
+pub fn with_ledger(mut state: JobState, ledger: Ledger) -> JobState
     ensures { result ≡ ledger_state state ledger }
 {
-    JobState {
-        begun: true,
-        ledger,
-        ..state
-    }
+    state.begun = true;
+    state.ledger = ledger;
+    state
 }
