@@ -91,6 +91,13 @@ module _ (ps qs : List Question) where
           by true more h = more h
           by false more h = h
 
+  pub refused_before : {n : ℕ} → n ≡ first_no ps → (n ≡ 0 → ⊥) → n ≡ first_no (ps ++ qs)
+  refused_before {n} e h = go n e h
+    where
+      go : (n : ℕ) → n ≡ first_no ps → (n ≡ 0 → ⊥) → n ≡ first_no (ps ++ qs)
+      go zero e h = absurd (h refl)
+      go (suc n) e h = sym (refused_first n (sym e))
+
   pub asked_after : {n : ℕ} → numbered ps ≡ true → first_no ps ≡ 0 → n ≡ first_no qs → n ≡ first_no (ps ++ qs)
   asked_after h e q = q ∙ after_yes (all_yes ps h e)
 
