@@ -188,6 +188,11 @@ module _ {A : Type 0} where
   decided_no n zero a e z = not_answered n a e
   decided_no n (suc k) a e z = let is : n ≡ suc k = cc in omega (arith, is, z)
 
+  pub left_refusal : (n k : ℕ) (a : A) → refused n ≡ decide k a → (n ≡ k) × (n ≡ 0 → ⊥)
+  unfolding decide
+  left_refusal n zero a e = absurd (not_answered n a e)
+  left_refusal n (suc k) a e = let is : n ≡ suc k = cc in (is, λ z. omega (arith, is, z))
+
 -- ---- what is decided by a list of questions: one after another
 
 module _ {A : Type 0} (a : A) where
