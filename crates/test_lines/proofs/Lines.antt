@@ -1,6 +1,6 @@
 -- A line read byte by byte.
 use Rattle.std.specs.Prelude.{slice_get}
-use Rattle.std.proofs.Common.{◌≡◌, ℕ, ◌+◌, ◌-◌, ◌*◌, ◌^◌, ◌≤◌, ◌<◌, true, ◌&&◌, Option, List, eqb, ap, ◌∙◌, arith, length, take, drop, get_or, length-drop}
+use Rattle.std.proofs.Common.{◌≡◌, ℕ, ◌+◌, ◌-◌, ◌*◌, ◌^◌, ◌≤◌, ◌<◌, true, ◌&&◌, Option, List, eqb, ap, ◌∙◌, arith, length, take, drop, get_or, get_or-drop, length-drop}
 use lib.Dec.{leb, ltb}
 use lib.Seq.{take_all}
 use borrow.Author.Tests.{leb-true, ltb-true}
@@ -45,6 +45,19 @@ module _ (line words₀ : List ℕ) where
       → ◌≡◌ {A = Reading} (record { line = record { tag = b; count = 0; value = 0 }; words = words₀ }) (read_to 1)
   unfolding fold
   read_none b e = rw e
+
+  pub read_more_to : (r r' : Line) (words words' : List ℕ) (i : ℕ) → 1 ≤ i → i < length line → r' ≡ took r (get_or line i 0) → words' ≡ last_put r' words
+      → ◌≡◌ {A = Reading} (record { line = r; words = words }) (read_to i) → ◌≡◌ {A = Reading} (record { line = r'; words = words' }) (read_to (i + 1))
+  unfolding read_byte
+  read_more_to r r' words words' i low h p q e =
+      let xs = drop 1 line in
+      let within : i - 1 < length xs = rw (length-drop 1 line) (omega arith) in
+      let same : 1 + (i - 1) ≡ i = omega arith in
+      let next : (i - 1) + 1 ≡ i + 1 - 1 = omega arith in
+      let byte : get_or xs (i - 1) 0 ≡ get_or line i 0 = get_or-drop 1 line (i - 1) 0 ∙ ap (λ (k : ℕ). get_or line k 0) same in
+      let step : ◌≡◌ {A = Reading} (record { line = r'; words = words' }) (read_byte (record { line = r; words = words }) (get_or xs (i - 1) 0)) = rw (byte, q, p) in
+      step ∙ ap (λ (x : Reading). read_byte x (get_or xs (i - 1) 0)) e ∙ fold_next read_byte _ xs (i - 1) 0 within
+      ∙ ap (λ (k : ℕ). fold read_byte (record { line = letter_of line; words = words₀ }) (take k xs)) next
 
   pub read_all : (x : Reading) (i : ℕ) → length line ≤ i → x ≡ read_to i → x ≡ line_read line words₀
   unfolding line_read

@@ -88,3 +88,9 @@ module _ (a : List ℕ) (i : ℕ) (b : List ℕ) (j : ℕ) where
       → count + bool_byte (not (eqb (number_at (drop i a) k) (number_at (drop j b) k))) ≡ differing a i b j (k + 1)
   unfolding differing
   differing_more k count e = rw (get_or-drop, get_or-drop, e, byte_one) (sym (sum_plus_one k _))
+
+  -- the same by the words themselves
+  pub differing_more_at : (k count x y : ℕ) → x ≡ number_at a (i + k) → y ≡ number_at b (j + k) → count ≡ differing a i b j k
+      → count + bool_byte (not (eqb x y)) ≡ differing a i b j (k + 1)
+  unfolding differing
+  differing_more_at k count x y p q e = rw (p, q, e, byte_one) (sym (sum_plus_one k _))
