@@ -137,6 +137,23 @@ module _ (l : Ledger) (i : ℕ) (d : Entry) (here : i < min l.len capacity) (who
   unfolding place_of
   place_next km h = rw (from_here, h)
 
+  -- the entry there follows those before it, or it does not
+  abbrev pub follows_at : Grid → ℕ → Bool
+  follows_at g least = leb least (get_or l.places i d).km.0 && entry_in_bounds g (get_or l.places i d)
+
+  pub order_next_at : (g : Grid) (least : ℕ) → follows_at g least ≡ true
+      → order_from g least (drop i (entries l)) ≡ order_from g ((get_or l.places i d).km.0 + 1) (drop (i + 1) (entries l))
+  unfolding rising_from all_in_bounds
+  order_next_at g least y =
+      let e = get_or l.places i d in
+      rw (from_here, and_left (leb least e.km.0) (entry_in_bounds g e) y, and_right (leb least e.km.0) (entry_in_bounds g e) y)
+
+  pub order_stop_at : (g : Grid) (least : ℕ) → follows_at g least ≡ false → order_from g least (drop i (entries l)) ≡ false
+  unfolding rising_from all_in_bounds
+  order_stop_at g least n =
+      let e = get_or l.places i d in
+      rw from_here (one_fails (leb least e.km.0) (rising_from (e.km.0 + 1) (drop (i + 1) (entries l))) (entry_in_bounds g e) (all_in_bounds g (drop (i + 1) (entries l))) n)
+
 -- n places are free, found without the sum
 pub same_leb : (len n most : ℕ) → n ≤ most → leb len (most - n) ≡ leb (len + n) most
 same_leb len n most h = cases (leb (len + n) most) (λ t. rw (t, le-leb len (most - n) (omega (arith, leb-true (len + n) most t)))) (λ f. rw (f, lt-leb len (most - n) (omega (arith, leb-false (len + n) most f))))
