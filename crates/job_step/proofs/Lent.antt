@@ -1,9 +1,10 @@
 -- What the two calls are lent beside the map, and what their answers make of the state.
-use Prim.Native.Nat.{ℕ}
+use Prim.Native.Nat.{ℕ, zero, suc}
 use mathlib.Core.Path.{◌≡◌, refl, sym, ◌∙◌, ap}
 use lib.Ieee.{Float}
 use Rattle.grid.specs.Map.{Map}
 use Rattle.spacing.specs.declared.Spacing.{Spacing}
+use Rattle.spacing.specs.declared.Spacing.TheVariants.{Cells}
 use Rattle.search_rules.specs.declared.MostPopulous.{MostPopulous}
 use Rattle.std.specs.Prelude.{Result, Ok, Err}
 use Rattle.grid.specs.declared.refusal.Refusal.{Refusal}
@@ -24,6 +25,11 @@ use Rattle.job_rules.specs.Apply.{job_spacing, job_buffers, most_done, least_don
 use Rattle.job_rules.specs.State.{command_state, refused_in, gone_on, later_in}
 use Rattle.job_rules.proofs.Commands.{refused_by, gone_on_lem}
 use Rattle.job_step.specs.State.{IsLeast}
+
+pub spacing_cells : (n : ℕ) → (n ≡ 0 → ⊥) → Cells n ≡ job_spacing n
+unfolding job_spacing
+spacing_cells zero h = absurd (h refl)
+spacing_cells (suc n) h = refl
 
 -- ---- M
 
