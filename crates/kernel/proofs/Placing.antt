@@ -32,6 +32,11 @@ people_sheet m k col = refl
 
 -- ---- a kernel by its rows alone
 
+-- whatever row and radius it is of
+pub rows_alone : (k : Kernel) (row : Row) (km : Float)
+    → rows_only (record { row = row; km = km; north = k.north; end = k.end; reach = k.reach; run = k.run }) ≡ rows_only k
+rows_alone k row km = refl
+
 pub rows_placed : {g : Grid} {k : Kernel} {col : Col} → CanSum g k col → CanSum g (rows_only k) col
 rows_placed p =
     let b = p.band in
