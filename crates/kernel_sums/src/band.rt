@@ -2,6 +2,7 @@
 ghost use Rattle.std.specs.Prelude.{◌≡◌};
 ghost use Rattle.kernel.specs.Kernel.{kernel_population};
 ghost use Rattle.kernel.specs.Requires.{CanSum};
+ghost use Rattle.kernel.specs.State.{rows_only};
 ghost use Rattle.sums.specs.State.{table_map};
 
 use grid::{Col, Row};
@@ -10,10 +11,11 @@ use sums::RowBand;
 use table::Table;
 
 // The people of the cells that a kernel holds around a column. Rows of equal reach hold the same columns, so that a run of them is summed as
-// one band of the table, at the cost of one row. The kernel is lent, since a copy would cost as much as a small circle.
+// one band of the table, at the cost of one row. The kernel is lent, since a copy would cost as much as a small circle; its row and radius play
+// no part, and nothing is asked of them.
 #[tactic(auto, using(crate::proofs::People::people_north, crate::proofs::People::people_all))]
 pub fn circle_population(table: Table<'_>, kernel: &Kernel, col: Col) -> u64
-    requires { CanSum table.grid kernel.now col }
+    requires { CanSum table.grid (rows_only kernel.now) col }
     ensures { result ≡ kernel_population (table_map table.entry.grid table.entry.sums.now) kernel.now col }
 {
     // No `for`: a turn goes on where its run ends, which the buffer of runs says. A row is a number here, since a run's end is

@@ -4,6 +4,7 @@ use Rattle.grid.specs.Map.{Map, map_lent}
 use Rattle.grid.specs.Answer.{first_no}
 use Rattle.grid.proofs.Answers.{PassedCall, radius_left}
 use Rattle.sums_fill.proofs.Tables.{bare_filled}
+use Rattle.kernel.proofs.Placing.{rows_placed}
 use Rattle.circle_rules.specs.Call.{circle_own, circle_questions}
 use Rattle.circle_rules.proofs.Calls.{circle_passed, circle_refused, circle_answered}
 use Rattle.circle.proofs.Accepted.{to_fill, to_build, to_ask, to_sum, summed_up}
@@ -38,7 +39,7 @@ invariant_of-table c =
 pub circle_population-requires : goal.circle_population-requires
 circle_population-requires c =
     let r = (goal.at.circle_population-requires c).In_ok-radius in
-    to_sum _ _ _ _ (passed r) _ (left r).1 _ (rw c.from.ensures at c.build-kernel.ensures)
+    rows_placed (to_sum _ _ _ _ (passed r) _ (left r).1 _ (rw c.from.ensures at c.build-kernel.ensures))
 
 pub returns : goal.returns
 returns c =

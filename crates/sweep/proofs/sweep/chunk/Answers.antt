@@ -12,9 +12,9 @@ use Rattle.sums.specs.State.{table_map}
 use Rattle.circle_cells.specs.Circle.{population}
 use Rattle.kernel.specs.declared.Kernel.{Kernel}
 use Rattle.kernel.specs.Kernel.{kernel_population}
-use Rattle.kernel.specs.State.{KernelAt}
+use Rattle.kernel.specs.State.{KernelAt, rows_only}
 use Rattle.kernel.specs.Requires.{CanSum}
-use Rattle.kernel.proofs.Placing.{kernel_own, kernel_kept}
+use Rattle.kernel.proofs.Placing.{rows_placed, kernel_own, kernel_kept}
 use Rattle.circle_cells.proofs.Populations.{same_population}
 use Rattle.lists.proofs.Bools.{of_true}
 use Rattle.blocks.specs.declared.Block.{Block}
@@ -70,8 +70,8 @@ module _ (h : After-odd_columns) where
 
   -- a kernel of the probe's row: it can be summed around the probe, to the people of the probe's circle
   module _ (km : Float) (k : Kernel) (is : KernelAt the_map.globe (probe block_of).row km k) where
-    can_sum : CanSum globe.grid k h.probe-p.result.col
-    can_sum = probe_placed _ _ _ _ ready block_of rectangle h.probe-p.result h.probe-p.ensures km k is
+    can_sum : CanSum globe.grid (rows_only k) h.probe-p.result.col
+    can_sum = rows_placed (probe_placed _ _ _ _ ready block_of rectangle h.probe-p.result h.probe-p.ensures km k is)
 
     people : kernel_population (table_map globe.grid h.args.map.now.sums.now) k h.probe-p.result.col ≡ population the_map km (probe block_of)
     people = probe_people _ _ _ _ ready block_of rectangle h.probe-p.result h.probe-p.ensures km k is
