@@ -9,5 +9,5 @@ use Rattle.job_world.proofs.state.with_angle.Goals as goal
 pub returns : goal.returns
 unfolding angle_state emptied
 returns c =
-    let s = c.args.state in
+    let s = c.args.state.now in
     rw (c.put.ensures, c.angle_place-place.ensures, set_min s.angles job_angles _ c.args.angle (omega arith))
