@@ -29,7 +29,7 @@ const JOB: usize = 65536;
 const PRINTED: usize = 65536;
 
 impl Score {
-    // The job, whose lines stand at the front of the list. One with more bytes than a job's is not run: it differs.
+    // The job, whose lines stand at the front of the list. A job of more bytes than there may be is not run, and differs.
     fn play(&mut self, job: &mut [u8], list: &[u8], room: &mut [u8], damages: bool) {
         let agrees = if job.len() <= JOB {
             let count = job_output::run(job, room);
