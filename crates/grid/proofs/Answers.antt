@@ -19,6 +19,10 @@ pub asked_yes : {n : ℕ} {b : Bool} (k : ℕ) (qs : List Question) → b ≡ tr
 unfolding first_no
 asked_yes k qs e h = rw e h
 
+pub asked_no : {n : ℕ} {b : Bool} (qs : List Question) → b ≡ false → n ≡ first_no (question n b ∷ qs)
+unfolding first_no
+asked_no qs e = rw e
+
 pub asked_none : 0 ≡ first_no []
 unfolding first_no
 asked_none = refl
