@@ -5,7 +5,7 @@
  * jadurphen_refusal). After a refusal every word lent is as it was, words, floats, population and tolerance included.
  * Nothing is kept, allocated, locked or printed: what a call gives depends on its arguments alone, and calls that are
  * lent different memory may run at the same time. The library needs memcpy and memset and no other function. On the
- * stack jadurphen_smallest takes 63 KiB, jadurphen_put 61 KiB and the others less than 5 KiB (measured).
+ * stack jadurphen_smallest takes 40 KiB, jadurphen_put 28 KiB and the others less than 5 KiB (measured).
  *
  * Memory. A slice is a pointer and the number of its elements. No pointer is null, not even where the number is 0, and
  * each is aligned for its type. What a call writes to (sums, current, following, ledger, population, words, tolerance,

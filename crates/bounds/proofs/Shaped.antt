@@ -2,12 +2,14 @@
 use Prim.Native.Nat.{ℕ, ◌≤◌}
 use mathlib.Core.Path.{◌≡◌, refl, sym, ap, ap₂, ◌∙◌}
 use mathlib.Core.Bool.{true}
+use mathlib.Core.List.{List, []}
 use lib.Ieee.{Float}
 use Rattle.floats.specs.Binary.{whole, ◌⊕◌, ◌⊖◌, ◌⊗◌, absolute, greater}
 use Rattle.grid.specs.declared.Row.{Row}
+use Rattle.grid.specs.declared.Grid.{Grid}
 use Rattle.grid.specs.Numbers.{radian}
 use Rattle.grid.specs.Grid.{arc_km, centre_lat}
-use Rattle.grid.specs.Map.{Globe, cosine_at}
+use Rattle.grid.specs.Map.{Globe, cosine_at, globe_of}
 use Rattle.kernel.specs.Kernel.{kernel_of}
 use Rattle.blocks.specs.declared.Block.{Block}
 use Rattle.blocks.specs.Block.{probe, same_shape}
@@ -40,3 +42,8 @@ module _ (s : Globe) (km : Float) (a b : Block) (e : same_shape a b ≡ true) (h
   pub same_wide_kernel : wide_kernel s km a ≡ wide_kernel s km b
   unfolding wide_kernel
   same_wide_kernel = ap₂ (kernel_of s) (shape_row a b e) same_wide
+
+-- no angle is read
+pub wide_sheet : (g : Grid) (angles cosines : List Float) (km : Float) (b : Block) → wide_km (globe_of g [] cosines) km b ≡ wide_km (globe_of g angles cosines) km b
+unfolding wide_km slack_km cosine_at
+wide_sheet g angles cosines km b = refl

@@ -5,7 +5,7 @@ ghost use Rattle.circle_rules.specs.Call.{circle_gave, circle_call};
 
 use circle_rules::circle_asked;
 use grid::{Cell, Map, Refusal};
-use table::Table;
+use table::SummedTable;
 
 // The population of the circle of a radius around a cell, or the first question answered no; a refusal writes nothing.
 pub fn circle(map: &Map<'_>, sums: &mut [u64], km: u32, centre: Cell) -> Result<u64, Refusal>
@@ -17,6 +17,7 @@ pub fn circle(map: &Map<'_>, sums: &mut [u64], km: u32, centre: Cell) -> Result<
     let counts = map.counts;
     sums_fill::fill_sums(grid, counts, sums);
     let kernel = kernel::build(&map.globe, centre.row, f64::from(radius.0));
-    let table = Table { grid, sums };
-    Ok(kernel_sums::circle_population(table, &kernel, centre.col))
+    let table = table::table_of(grid, sums);
+    let summed = SummedTable { table };
+    Ok(kernel_sums::circle_population(summed, &kernel, centre.col))
 }

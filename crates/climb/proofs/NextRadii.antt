@@ -9,10 +9,31 @@ use native.Mathlib.Nat.{two-pow-succ}
 use lib.Dec.{leb, ltb}
 use borrow.Author.Tests.{ltb-true, ltb-false, leb-true, leb-false, lt-ltb, le-ltb}
 use Rattle.lists.proofs.Bools.{cases}
+use Rattle.grid.specs.declared.Grid.{Grid}
 use Rattle.climb.specs.declared.Bracket.{Bracket}
 use Rattle.climb.specs.Climb.{most_cap, most_radii, doublings, climb_radii, Ended, all_short, reached_at, bisect, climb}
+use Rattle.climb.specs.Requires.{CanGoOn}
 use Rattle.climb.specs.State.{bracket_at, bracket_start, bracket_closed, next_radius, bracket_next}
-use Rattle.climb.proofs.Radii.{Steps, climb_steps}
+use Rattle.climb.proofs.Radii.{last_most, Steps, climb_steps}
+
+-- ---- the next bracket, by what the code tests
+
+-- the kilometre after the next radius is at most the ceiling
+pub next_fits : {g : Grid} {c : Bracket} → CanGoOn g c → {km : ℕ} → km ≡ next_radius c → km + 1 < 2 ^ 32
+next_fits {g} can e = omega (arith, can.within, last_most g)
+
+module _ (last : ℕ) (c : Bracket) (r : Bool) (km : ℕ) (k : km ≡ next_radius c) where
+  pub next_reached : r ≡ true → bracket_at c.low.0 km true ≡ bracket_next last c r
+  unfolding bracket_next
+  next_reached e = rw (← k, e)
+
+  pub next_bisected : r ≡ false → c.reached ≡ true → bracket_at (km + 1) c.high.0 true ≡ bracket_next last c r
+  unfolding bracket_next
+  next_bisected e f = rw (← k, e, f)
+
+  pub next_climbed : r ≡ false → c.reached ≡ false → bracket_at (km + 1) (min (2 * km) last) false ≡ bracket_next last c r
+  unfolding bracket_next
+  next_climbed e f = rw (← k, e, f)
 
 -- ---- the radii of the climb from one of them on
 

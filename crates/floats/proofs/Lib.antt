@@ -14,4 +14,5 @@ pub mod Capped
 pub mod Finite
 pub mod Absolute
 pub mod Next
+pub mod Patterns
 pub mod Facts

@@ -6,7 +6,7 @@ use native.Mathlib.Omega.{arith}
 use native.Mathlib.Nat.{zero-mul, mul-pos, zero-lt-suc}
 use lib.IntN.{pos}
 use lib.Dec.{T, ltb}
-use lib.Ieee.{Float, nan, inf, fin, Format, binary32, binary64, prec, emax, low, up, down, odd, units, round, neg, le}
+use lib.Ieee.{Float, nan, inf, fin, Format, binary32, binary64, prec, emax, low, up, down, odd, units, round, neg, le, of_bits}
 use lib.Ieee.Fits.{round_is}
 use lib.Ieee.Order.{round_mono, kept, drop}
 use lib.Ieee.Scale.{round_same}
@@ -59,6 +59,11 @@ round_neg f a b =
 -- ---- zero, and the other names that it has
 abbrev pub +0 : Float
 +0 = fin false 0 (pos 0)
+
+-- the literal 0.0
+pub zero_bits : of_bits binary64 0 ≡ +0
+unfolding of_bits
+zero_bits = refl
 
 round_zero_one : (f : Format) → round f false 0 1 ≡ +0
 unfolding round

@@ -1,6 +1,7 @@
 // The operations on binary64 that the Rust has beyond the operators, each equal to its definition at every value. Those that only call the
 // library's stand here since their contracts are in the definitions' words (`absolute`, `finite`, `next_up`): a caller that called the
-// library's would prove that anew.
+// library's would prove that anew. `abs` and `next_up` also name the law of a body that compares with zero, so that such a body is judged by
+// what it gives.
 #![tactic(auto)]
 
 ghost use Rattle.std.specs.Prelude.{◌≡◌};
@@ -19,6 +20,7 @@ pub fn is_finite(x: f64) -> bool
 }
 
 // The magnitude. The sign of zero is cleared too, as IEEE 754 has it.
+#[tactic(auto, using(crate::proofs::Absolute::unsigned_is, crate::proofs::Absolute::absolute_is, lists::proofs::Bools::of_true))]
 pub fn abs(x: f64) -> f64
     ensures { result ≡ absolute x }
 {
@@ -42,6 +44,7 @@ pub fn lesser(x: f64, y: f64) -> f64
 }
 
 // The least value that compares greater: one more in the bits above 0, one less below 0. NaN and +infinity stay.
+#[tactic(auto, using(crate::proofs::Next::next_is, crate::proofs::Next::next_zero, lists::proofs::Bools::of_true))]
 pub fn next_up(x: f64) -> f64
     ensures { result ≡ next_up x }
 {

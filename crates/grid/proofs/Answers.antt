@@ -19,6 +19,10 @@ pub asked_yes : {n : ℕ} {b : Bool} (k : ℕ) (qs : List Question) → b ≡ tr
 unfolding first_no
 asked_yes k qs e h = rw e h
 
+pub asked_no : {n : ℕ} {b : Bool} (qs : List Question) → b ≡ false → n ≡ first_no (question n b ∷ qs)
+unfolding first_no
+asked_no qs e = rw e
+
 pub asked_none : 0 ≡ first_no []
 unfolding first_no
 asked_none = refl
@@ -90,6 +94,13 @@ module _ (ps qs : List Question) where
               → cond b (first_no (ps ++ qs)) p.number ≡ suc n
           by true more h = more h
           by false more h = h
+
+  pub refused_before : {n : ℕ} → n ≡ first_no ps → (n ≡ 0 → ⊥) → n ≡ first_no (ps ++ qs)
+  refused_before {n} e h = go n e h
+    where
+      go : (n : ℕ) → n ≡ first_no ps → (n ≡ 0 → ⊥) → n ≡ first_no (ps ++ qs)
+      go zero e h = absurd (h refl)
+      go (suc n) e h = sym (refused_first n (sym e))
 
   pub asked_after : {n : ℕ} → numbered ps ≡ true → first_no ps ≡ 0 → n ≡ first_no qs → n ≡ first_no (ps ++ qs)
   asked_after h e q = q ∙ after_yes (all_yes ps h e)
@@ -180,6 +191,11 @@ module _ {A : Type 0} where
   unfolding decide
   decided_no n zero a e z = not_answered n a e
   decided_no n (suc k) a e z = let is : n ≡ suc k = cc in omega (arith, is, z)
+
+  pub left_refusal : (n k : ℕ) (a : A) → refused n ≡ decide k a → (n ≡ k) × (n ≡ 0 → ⊥)
+  unfolding decide
+  left_refusal n zero a e = absurd (not_answered n a e)
+  left_refusal n (suc k) a e = let is : n ≡ suc k = cc in (is, λ z. omega (arith, is, z))
 
 -- ---- what is decided by a list of questions: one after another
 

@@ -3,9 +3,10 @@ use Rattle.std.specs.Prelude.{Some, None, ℕ, ◌≡◌, Bool, true, false, con
 use Rattle.std.proofs.Common.{arith}
 use Rattle.std.proofs.lemmas.Option.{cond_some}
 use Rattle.grid.specs.declared.Row.{Row}
+use Rattle.grid.specs.declared.Col.{Col}
 use Rattle.grid.specs.declared.RadiusKm.{RadiusKm}
 use Rattle.grid.specs.declared.Grid.{Grid}
-use Rattle.grid.specs.Grid.{ceiling, row_found, radius_found}
+use Rattle.grid.specs.Grid.{ceiling, row_found, col_found, radius_found}
 
 -- nothing by a test: it said no
 cond_none : {A : Type 0} (b : Bool) (x : A) → cond b (Some x) None ≡ None → b ≡ false
@@ -19,6 +20,14 @@ module _ (g : Grid) (i : ℕ) where
   pub row_off : row_found g i ≡ None → ltb i g.height ≡ false
   unfolding row_found
   row_off e = cond_none _ _ e
+
+  pub col_on : (c : Col) → col_found g i ≡ Some c → (ltb i g.width ≡ true) × (i ≡ c.0)
+  unfolding col_found
+  col_on c e = let p = cond_some _ _ _ e in (p.0, cc)
+
+  pub col_off : col_found g i ≡ None → ltb i g.width ≡ false
+  unfolding col_found
+  col_off e = cond_none _ _ e
 
 module _ (g : Grid) (km : ℕ) where
   pub radius_within : (r : RadiusKm) → radius_found g km ≡ Some r → (leb km (ceiling g) ≡ true) × (km ≡ r.0)

@@ -1,3 +1,4 @@
 pub mod Numbers
+pub mod Halves
 pub mod Operands
 pub mod Seen

@@ -1,10 +1,11 @@
 -- A command is read from its operands alone, and decoding by its branches: a command with its operands, a cut one, and E.
-use Rattle.std.proofs.Common.{ℕ, ◌≡◌, ◌+◌, ◌-◌, ◌≤◌, ◌<◌, Some, None, List, length, take, drop, arith, get_or, add-one, length-drop, drop_of_length-le}
+use Rattle.std.proofs.Common.{ℕ, ◌≡◌, ap, ◌+◌, ◌-◌, ◌≤◌, ◌<◌, Option, Some, None, List, length, take, drop, arith, get_or, add-one, length-drop, drop_of_length-le}
 use borrow.Author.Tests.{lt-ltb, le-ltb}
 use Rattle.std.proofs.Math.Seq.{drop-cons, take_all}
 use Rattle.std.specs.Array.{IsFirstChunk}
 use Rattle.job_commands.specs.declared.Command.{Command}
 use Rattle.job_commands.specs.declared.Command.TheVariants.{End}
+use Rattle.job_commands.specs.declared.Decoded.{Decoded}
 use Rattle.job_commands.specs.Command.{row_at, grid_read, set_grid_of, set_count_of, set_cosine_of, set_angle_of, most_of, least_of, with_operands, end_of, decode_as, decode}
 use Rattle.job_commands.specs.State.{decoded_in}
 use Rattle.job_commands.proofs.Numbers.{number_within, float_within}
@@ -79,6 +80,31 @@ module _ (bs : List ℕ) (from : ℕ) (in_bytes : from ≤ length bs) where
       let place : from + 0 ≡ length bs - 0 = omega (arith, none, length-drop from bs) in
       let past : length bs ≤ from = omega (arith, none, length-drop from bs) in
       rw (e, drop_of_length-le bs past, place)
+
+-- by how many bytes are left behind a place
+module _ (bs : List ℕ) (from : ℕ) where
+  module _ (size : ℕ) (make : List ℕ → Command) where
+    pub operands_cut_at : length bs - from < size → None ≡ decoded_in bs (with_operands size make (drop from bs))
+    unfolding decoded_in with_operands
+    operands_cut_at h = rw (length-drop from bs, lt-ltb (length bs - from) size h)
+
+    pub operands_read_at : from ≤ length bs → (c : Command) → size ≤ length bs - from → c ≡ make (drop from bs)
+        → Some (record { command = c; next = from + size }) ≡ decoded_in bs (with_operands size make (drop from bs))
+    unfolding decoded_in with_operands
+    operands_read_at in_bytes c h e =
+        let place : from + size ≡ length bs - length (drop size (drop from bs)) = omega (arith, length-drop size (drop from bs), length-drop from bs) in
+        rw (length-drop from bs, le-ltb (length bs - from) size h, e)
+        (ap {B = Option Decoded} (λ (n : ℕ). Some (record { command = make (drop from bs); next = n })) place)
+
+  pub end_followed_at : from < length bs → None ≡ decoded_in bs (end_of (drop from bs))
+  unfolding decoded_in end_of
+  end_followed_at h = rw (drop-cons bs from 0 h)
+
+  pub end_last_at : from ≤ length bs → length bs ≤ from → Some (record { command = End; next = from }) ≡ decoded_in bs (end_of (drop from bs))
+  unfolding decoded_in end_of
+  end_last_at in_bytes h =
+      let place : from ≡ length bs - 0 = omega arith in
+      rw (drop_of_length-le bs h) (ap {B = Option Decoded} (λ (n : ℕ). Some (record { command = End; next = n })) place)
 
 module _ (bs : List ℕ) (at : ℕ) where
   pub decode_letter : {letter : ℕ} → at < length bs → letter ≡ get_or bs at 0 → decode_as letter (drop (at + 1) bs) ≡ decode (drop at bs)

@@ -8,7 +8,7 @@ use lib.ListN.{length, take, drop, get_or, set, replicate, length-append, length
 use Rattle.std.proofs.lemmas.Grind.{take-set_at}
 use Rattle.std.proofs.Common.{add-zero}
 use Rattle.std.proofs.lemmas.List.{drop-set-lt, take-append-drop}
-use lib.Seq.{drop-drop, take-suc, take-append_seam, set-append_seam, append_snoc, length-take-le}
+use lib.Seq.{drop-drop, take-suc, take-length, take-append_seam, set-append_seam, append_snoc, length-take-le}
 use Rattle.job_lines.specs.declared.Line.{Line}
 use Rattle.job_lines.specs.State.{line_room, text_of, line_of, with_byte, longer}
 use Rattle.job_lines.specs.Line.{longest_field, in_decimal, field, fields}
@@ -31,6 +31,19 @@ longer_len l (x ∷ xs) = omega (arith, longer_len (with_byte l x) xs)
 module _ (l r : Line) where
   pub len_longer : (xs : List ℕ) → r ≡ longer l xs → r.len ≡ l.len + length xs
   len_longer xs e = ap (λ (t : Line). t.len) e ∙ longer_len l xs
+
+  -- as far as a place of a list, and one byte more
+  pub len_so_far : (more : List ℕ) (i : ℕ) → i ≤ length more → r ≡ longer l (take i more) → r.len ≡ l.len + i
+  len_so_far more i h e = omega (arith, len_longer (take i more) e, length-take-le i more h)
+
+  pub longer_next : (more : List ℕ) (i : ℕ) → i < length more → r ≡ longer l (take i more) → with_byte r (get_or more i 0) ≡ longer l (take (i + 1) more)
+  unfolding longer
+  longer_next more i h e =
+      let next : take (i + 1) more ≡ take i more ++ get_or more i 0 ∷ [] = rw (add-one i) (take-suc more i 0 h) in
+      ap (λ (t : Line). with_byte t (get_or more i 0)) e ∙ longer_then l (take i more) (get_or more i 0 ∷ []) ∙ ap (longer l) (sym next)
+
+  pub longer_all : (more : List ℕ) (i : ℕ) → i ≡ length more → r ≡ longer l (take i more) → r ≡ longer l more
+  longer_all more i h e = e ∙ ap (longer l) (ap (λ (n : ℕ). take n more) h ∙ take-length more)
 
 -- all bytes at once: the line's own, those behind them, and what stands after
 pub longer_is : (l : Line) (xs : List ℕ) → l.len + length xs ≤ length l.bytes
@@ -100,6 +113,10 @@ unfolding fields
 fields_snoc [] n = append-nil (field n)
 fields_snoc (m ∷ ns) n = ap (λ (t : List ℕ). field m ++ t) (fields_snoc ns n) ∙ sym (append_assoc (field m) (fields ns) (field n))
 
+pub fields_none : (l : Line) (ns : List ℕ) → l ≡ longer l (fields (take 0 ns))
+unfolding fields longer
+fields_none l ns = refl
+
 module _ (l : Line) (ns : List ℕ) (i : ℕ) where
   pub fields_len : (r : Line) → i ≤ length ns → r ≡ longer l (fields (take i ns)) → r.len ≤ l.len + longest_field * i
   fields_len r h e = omega (arith, len_longer l r (fields (take i ns)) e, length_fields (take i ns), length-take-le i ns h)
@@ -108,3 +125,6 @@ module _ (l : Line) (ns : List ℕ) (i : ℕ) where
   fields_next a b h p q =
       let more : fields (take i ns) ++ field (get_or ns i 0) ≡ fields (take (i + 1) ns) = sym (rw (add-one i, take-suc ns i 0 h) (fields_snoc (take i ns) (get_or ns i 0))) in
       q ∙ ap (λ (t : Line). longer t (field (get_or ns i 0))) p ∙ longer_then l (fields (take i ns)) (field (get_or ns i 0)) ∙ ap (longer l) more
+
+  pub fields_all : (r : Line) → i ≡ length ns → r ≡ longer l (fields (take i ns)) → r ≡ longer l (fields ns)
+  fields_all r h e = e ∙ ap (λ (t : List ℕ). longer l (fields t)) (ap (λ (n : ℕ). take n ns) h ∙ take-length ns)

@@ -1,11 +1,9 @@
 // The lines that a job prints.
 ghost use Rattle.std.specs.Prelude.{◌≡◌, [], ◌++◌, ◌+◌, ◌*◌, ◌≤◌, ◌<◌, length};
-ghost use Rattle.grid.specs.Refusal.{refusal_number};
 ghost use Rattle.job_lines.specs.Line.{longest_field, field, fields, newline, short_fields, refused_line, most_line, least_line};
 ghost use Rattle.job_lines.specs.State.{line_room, line_of, longer};
 
 use crate::Line;
-use grid::Refusal;
 use itoa::Buffer;
 use probes::{Smallest, Witness};
 use search_rules::MostPopulous;
@@ -71,10 +69,10 @@ fn end_line(line: Line) -> Line
 }
 
 // The line of a refusal: "refused" and its number.
-pub fn refused_line(refusal: Refusal) -> Line
-    ensures { result ≡ line_of (refused_line (refusal_number refusal)) }
+pub fn refused_line(number: u32) -> Line
+    ensures { result ≡ line_of (refused_line number) }
 {
-    end_line(begin_line(b"refused", &[u64::from(refusal.number())]))
+    end_line(begin_line(b"refused", &[u64::from(number)]))
 }
 
 // The line of an M: "most", the radius, the centre with its population, and the counts of the work.

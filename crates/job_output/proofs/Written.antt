@@ -7,8 +7,8 @@ use native.Mathlib.Numerals.{add-one}
 use Rattle.std.proofs.Common.{min, Bool, true, false}
 use borrow.Author.Tests.{ltb-true, ltb-false}
 use lib.Dec.{ltb}
-use lib.ListN.{length, take, drop, get_or, set, length-append}
-use lib.Seq.{length-take-le, take_all, take-suc, take-length}
+use lib.ListN.{length, take, drop, get_or, set, length-take, length-append}
+use lib.Seq.{length-take-le, take_all, take-suc, take-length, get_or-take}
 use Rattle.job_lines.specs.declared.Line.{Line}
 use Rattle.job_lines.specs.State.{line_room, text_of}
 use Rattle.job_output.specs.Output.{printed_into, output_of, output}
@@ -78,3 +78,35 @@ module _ (place : ℕ) (text out₀ : List ℕ) where
   pub text_all : (out : List ℕ) (n : ℕ) → n ≡ length text → out ≡ from place (take n text) out₀ → output_of (place + n) out ≡ added place text out₀
   unfolding added from
   text_all out n k e = rw (e, k, take-length text)
+
+-- the same by the line's own bytes
+
+module _ (line : Line) (whole : length line.bytes ≡ line_room) where
+  pub short_line : line.len < line_room → line.len ≡ length (text_of line)
+  unfolding text_of
+  short_line h = sym (length-take-le line.len line.bytes (omega (arith, whole)))
+
+  pub full_line : line_room ≤ line.len → line_room ≡ length (text_of line)
+  unfolding text_of
+  full_line h = sym whole ∙ ap length (sym (take_all line.len line.bytes (omega (arith, whole))))
+
+byte_of : (line : Line) (i : ℕ) → i < length (text_of line) → get_or (text_of line) i 0 ≡ get_or line.bytes i 0
+unfolding text_of
+byte_of line i h = get_or-take line.len line.bytes i 0 (omega (arith, length-take line.len line.bytes))
+
+pub line_within : (line : Line) → length (text_of line) ≤ length line.bytes
+unfolding text_of
+line_within line = omega (arith, length-take line.len line.bytes)
+
+module _ (line : Line) (place : ℕ) (out₀ : List ℕ) where
+  pub line_next : (out : List ℕ) (i : ℕ) → i < length (text_of line) → out ≡ from place (take i (text_of line)) out₀
+      → set out (place + i) (get_or line.bytes i 0) ≡ from place (take (i + 1) (text_of line)) out₀
+  line_next out i h e =
+      let here : length (take i (text_of line)) ≡ i = length-take-le i (text_of line) (omega arith) in
+      let byte : get_or (text_of line) i 0 ≡ get_or line.bytes i 0 = byte_of line i h in
+      rw (e, add-one i, take-suc (text_of line) i 0 h, byte) (set_from place (take i (text_of line)) out₀ (get_or line.bytes i 0) (place + i) (omega arith))
+
+  pub line_all : (out : List ℕ) (i n : ℕ) → i ≡ length (text_of line) → n ≡ place + i → out ≡ from place (take i (text_of line)) out₀
+      → output_of n out ≡ added place (text_of line) out₀
+  unfolding added from
+  line_all out i n all k e = rw (e, k, all, take-length (text_of line))

@@ -63,7 +63,7 @@ pub fn run(bytes: &[u8], out: &mut [u8]) -> usize
     ensures { output_of result out.new ≡ output (program fresh_ledger bytes.now) out.old }
 {
     if MOST_BYTES < bytes.len() {
-        return add_line(job_lines::refused_line(Refusal::Bytes), out, 0);
+        return add_line(job_lines::refused_line(Refusal::Bytes.number()), out, 0);
     }
     run_steps(bytes, out)
 }

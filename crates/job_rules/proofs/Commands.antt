@@ -12,7 +12,7 @@ use Rattle.grid.specs.Answer.{first_no, Answer, answered, refused, decide}
 use Rattle.grid.proofs.Answers.{says_no, says_yes, says_all, refused_alike, decided_yes, decide_yes}
 use Rattle.grid.specs.Questions.{grid_questions}
 use Rattle.job_commands.specs.declared.Command.{Command}
-use Rattle.job_commands.specs.declared.Command.TheVariants.{SetGrid, SetCount, SetCosine, SetAngle}
+use Rattle.job_commands.specs.declared.Command.TheVariants.{SetGrid, SetCount, SetCosine, SetAngle, End}
 use Rattle.job_world.specs.declared.JobState.{JobState}
 use Rattle.job_lines.specs.declared.Line.{Line}
 use Rattle.job_lines.specs.State.{line_of}
@@ -23,10 +23,10 @@ use Rattle.job_sizes.proofs.Found.{cell_is, cell_none, row_is, row_none, angle_i
 use Rattle.job_world.specs.World.{World, State, empty, begun, with_map, with_count, with_cosine, with_angle}
 use Rattle.job_world.specs.State.{job_map, world_of, state_of, grid_state, count_state, cosine_state, angle_state}
 use Rattle.job_rules.specs.Apply.{Done, going, placed, in_world, first, apply}
-use Rattle.job_rules.specs.State.{command_state, refused_in, gone_on, done_in, first_in, later_in}
+use Rattle.job_rules.specs.State.{command_state, refused_in, gone_on, done_in, first_in, later_in, applied_in}
 
 module _ (s : JobState) where
-  state_empty : s.begun ≡ false → state_of s ≡ empty s.ledger
+  pub state_empty : s.begun ≡ false → state_of s ≡ empty s.ledger
   unfolding state_of
   state_empty h = rw h
 
@@ -43,6 +43,15 @@ module _ (s : JobState) where
     unfolding apply
     apply_begun h = ap (λ (t : State). apply t c) (state_begun h)
 
+    -- a command in its turn
+    pub first_applied : s.begun ≡ false → first_in s c ≡ applied_in s c
+    unfolding applied_in
+    first_applied h = ap (done_in s c) (sym (apply_early h))
+
+    pub later_applied : s.begun ≡ true → later_in s c ≡ applied_in s c
+    unfolding applied_in
+    later_applied h = ap (done_in s c) (sym (apply_begun h))
+
     -- by its answer: refused, and going on
     module _ {a : Answer Done} where
       pub refused_by : {n : ℕ} → refused n ≡ a → refused_in s n ≡ done_in s c a
@@ -56,11 +65,11 @@ module _ (s : JobState) where
 
     -- an index off the grid, and one on it
     module _ {on : Bool} (w : World) where
-      off_grid : on ≡ false → refused_in s 15 ≡ done_in s c (placed on w)
+      pub off_grid : on ≡ false → refused_in s 15 ≡ done_in s c (placed on w)
       unfolding placed
       off_grid t = refused_by (says_no _ 14 [] t)
 
-      on_grid_lem : {t : JobState} → on ≡ true → t ≡ command_state s c → gone_on t (line_of []) ≡ done_in s c (placed on w)
+      pub on_grid_lem : {t : JobState} → on ≡ true → t ≡ command_state s c → gone_on t (line_of []) ≡ done_in s c (placed on w)
       unfolding placed
       on_grid_lem b p = gone_on_lem (says_yes _ 15 [] b (says_all _ refl)) p refl
 
@@ -130,3 +139,9 @@ module _ (s : JobState) where
     angle_on_lem {r} {y} f e p =
         let is = angle_is s.grid centre row offset y (sym f ∙ e) in
         on_grid_lem (SetAngle centre row offset x) turned is.0 (let q = rw (← is.1) at p in q)
+
+  -- ---- E
+
+  pub end_last : {t : JobState} {line : Line} → t ≡ s → line ≡ line_of [] → record { state = t; line = line; last = true } ≡ later_in s End
+  unfolding in_world command_state done_in
+  end_last p q = rw (p, q)

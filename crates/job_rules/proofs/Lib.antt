@@ -1,2 +1,3 @@
 pub mod Commands
+pub mod Stepping
 pub mod Seen

@@ -1,12 +1,16 @@
 -- Indices on the grid: what the grid's constructors gave makes C's cell and A's rows, and what was made is the command's own.
-use Rattle.std.proofs.Common.{ℕ, Some, None, arith}
+use Rattle.std.proofs.Common.{ℕ, ◌≤◌, ◌<◌, Some, None, arith}
 use Rattle.std.proofs.lemmas.Option.{cond_some}
-use mathlib.Core.Path.{◌≡◌}
+use mathlib.Core.Path.{◌≡◌, sym, ap}
 use mathlib.Core.Bool.{Bool, true, false, cond}
+use borrow.Author.Tests.{le-leb, lt-leb}
+use lib.Dec.{ltb}
 use Rattle.grid.specs.declared.Cell.{Cell}
+use Rattle.grid.specs.declared.Col.{Col}
 use Rattle.grid.specs.declared.Grid.{Grid}
 use Rattle.grid.specs.declared.Row.{Row}
-use Rattle.grid.specs.Grid.{on_grid, row_found}
+use Rattle.grid.specs.Grid.{on_grid, closing, row_found, col_found}
+use Rattle.grid.proofs.CellOrder.{cell_path}
 use Rattle.grid.proofs.Found.{row_on, row_off}
 use Rattle.job_sizes.specs.declared.AngleIndices.{AngleIndices}
 use Rattle.job_sizes.specs.Sizes.{row_on_grid, angle_on, cell_found, angle_found}
@@ -51,3 +55,54 @@ module _ (g : Grid) (centre row : Row) (offset : ℕ) where
   pub angle_none : angle_found g centre row offset ≡ None → angle_on g centre row offset ≡ false
   unfolding angle_found
   angle_none e = cond_none _ _ e
+
+-- ---- C's cell and A's rows and offset, by what the grid has of each
+
+module _ (g : Grid) (i : ℕ) where
+  col_on : (c : Col) → col_found g i ≡ Some c → (ltb i g.width ≡ true) × (i ≡ c.0)
+  unfolding col_found
+  col_on c e = let p = cond_some _ _ _ e in (p.0, cc)
+
+  col_off : col_found g i ≡ None → ltb i g.width ≡ false
+  unfolding col_found
+  col_off e = cond_none _ _ e
+
+module _ (g : Grid) (x : Cell) where
+  pub no_row : row_found g x.row.0 ≡ None → None ≡ cell_found g x
+  unfolding cell_found on_grid
+  no_row p = rw (row_off g x.row.0 p)
+
+  -- with its row
+  module _ (r : Row) (p : row_found g x.row.0 ≡ Some r) where
+    pub no_column : col_found g x.col.0 ≡ None → None ≡ cell_found g x
+    unfolding cell_found on_grid
+    no_column q = rw ((row_on g x.row.0 r p).0, col_off g x.col.0 q)
+
+    pub cell_made : (c : Col) → col_found g x.col.0 ≡ Some c → Some (record { row = r; col = c }) ≡ cell_found g x
+    unfolding cell_found on_grid
+    cell_made c q =
+        let there = row_on g x.row.0 r p in
+        let across = col_on g x.col.0 c q in
+        let same : x ≡ record { row = r; col = c } = cell_path there.1 across.1 in
+        rw (there.0, across.0) (ap Some (sym same))
+
+module _ (g : Grid) (centre row : Row) (offset : ℕ) where
+  pub no_centre : row_found g centre.0 ≡ None → None ≡ angle_found g centre row offset
+  unfolding angle_found angle_on
+  no_centre p = rw (row_none g centre p)
+
+  -- with its centre row, and with both rows
+  module _ (r : Row) (p : row_found g centre.0 ≡ Some r) where
+    pub no_other_row : row_found g row.0 ≡ None → None ≡ angle_found g centre row offset
+    unfolding angle_found angle_on
+    no_other_row q = rw ((row_is g centre r p).0, row_none g row q)
+
+    module _ (s : Row) (q : row_found g row.0 ≡ Some s) (n : ℕ) (ends : n ≡ closing g) where
+      pub past_closing : n < offset → None ≡ angle_found g centre row offset
+      unfolding angle_found angle_on
+      past_closing h = rw ((row_is g centre r p).0, (row_is g row s q).0, ← ends, lt-leb _ _ h)
+
+      pub angle_made : offset ≤ n → Some (record { centre = r; row = s; offset = offset }) ≡ angle_found g centre row offset
+      unfolding angle_found angle_on
+      angle_made h =
+          rw ((row_is g centre r p).0, (row_is g row s q).0, ← ends, le-leb _ _ h, (row_is g centre r p).1, (row_is g row s q).1)

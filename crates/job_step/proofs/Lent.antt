@@ -1,9 +1,11 @@
 -- What the two calls are lent beside the map, and what their answers make of the state.
-use Prim.Native.Nat.{ℕ}
+use Prim.Native.Nat.{ℕ, zero, suc}
 use mathlib.Core.Path.{◌≡◌, refl, sym, ◌∙◌, ap}
+use mathlib.Core.Bool.{false}
 use lib.Ieee.{Float}
 use Rattle.grid.specs.Map.{Map}
 use Rattle.spacing.specs.declared.Spacing.{Spacing}
+use Rattle.spacing.specs.declared.Spacing.TheVariants.{Cells}
 use Rattle.search_rules.specs.declared.MostPopulous.{MostPopulous}
 use Rattle.std.specs.Prelude.{Result, Ok, Err}
 use Rattle.grid.specs.declared.refusal.Refusal.{Refusal}
@@ -21,9 +23,23 @@ use Rattle.job_world.specs.declared.JobState.{JobState}
 use Rattle.job_world.specs.World.{world}
 use Rattle.job_world.specs.State.{job_map, world_of, ledger_state}
 use Rattle.job_rules.specs.Apply.{job_spacing, job_buffers, most_done, least_done, in_world}
+use Rattle.job_rules.specs.declared.Applied.{Applied}
 use Rattle.job_rules.specs.State.{command_state, refused_in, gone_on, later_in}
 use Rattle.job_rules.proofs.Commands.{refused_by, gone_on_lem}
+use Rattle.job_step.specs.declared.Printed.{Printed}
 use Rattle.job_step.specs.State.{IsLeast}
+
+pub spacing_cells : (n : ℕ) → (n ≡ 0 → ⊥) → Cells n ≡ job_spacing n
+unfolding job_spacing
+spacing_cells zero h = absurd (h refl)
+spacing_cells (suc n) h = refl
+
+-- ---- a command that goes on, by the state that it leaves and what it prints
+
+pub goes_on : {s : JobState} {p : Printed} {line : Line} {a : Applied} → p ≡ record { line = line; last = false } → gone_on s line ≡ a
+    → ◌≡◌ {A = Applied} (record { state = s; line = p.line; last = p.last }) a
+unfolding gone_on
+goes_on e h = rw e h
 
 -- ---- M
 

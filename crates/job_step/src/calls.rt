@@ -10,9 +10,8 @@ ghost use Rattle.job_rules.specs.Apply.{job_spacing, job_buffers};
 ghost use Rattle.job_rules.specs.State.{later_in};
 ghost use Rattle.job_step.specs.State.{IsLeast, settled_in};
 
-use crate::change;
+use crate::{Printed, change};
 use grid::{Globe, Map, Refusal};
-use job_rules::Applied;
 use job_world::JobState;
 use ledger::Ledger;
 use probes::Smallest;
@@ -50,10 +49,10 @@ fn map_of(state: &JobState) -> Map<'_>
 // The search on the map's part of the arrays. It and `least_of` stay two: what they share is `map_of` and `spacing_of`, and each lends, asks and
 // gives what its own call does.
 #[tactic(auto, using(crate::proofs::Lent::search_lent), unfolding(job_rules::specs::Apply::job_buffers))]
-fn most_of(state: JobState, spacing: u32, km: u32) -> Result<MostPopulous, Refusal>
-    ensures { answer_of result ≡ (search_call (job_map state) (job_spacing spacing) km job_buffers).answer }
+fn most_of(state: &JobState, spacing: u32, km: u32) -> Result<MostPopulous, Refusal>
+    ensures { answer_of result ≡ (search_call (job_map state.now) (job_spacing spacing) km job_buffers).answer }
 {
-    let map = map_of(&state);
+    let map = map_of(state);
     let side = spacing_of(spacing);
     most_populous::most_populous(
         &map,
@@ -67,24 +66,24 @@ fn most_of(state: JobState, spacing: u32, km: u32) -> Result<MostPopulous, Refus
 
 // M: the most populous circle's line.
 #[tactic(auto, using(crate::proofs::Lent::most_found, crate::proofs::Lent::most_refused))]
-pub(crate) fn run_most(state: JobState, spacing: u32, km: u32) -> Result<Applied, Refusal>
-    ensures { settled_in state result ≡ later_in state (Most spacing km) }
+pub(crate) fn run_most(state: &JobState, spacing: u32, km: u32) -> Result<Printed, Refusal>
+    ensures { settled_in state.now result ≡ later_in state.now (Most spacing km) }
 {
     let found = most_of(state, spacing, km)?;
-    Ok(change::go_on(state, job_lines::most_line(found)))
+    Ok(change::go_on(job_lines::most_line(found)))
 }
 
 // The smallest radius on the map's part of the arrays, from a ledger that is lent.
 #[tactic(auto, using(crate::proofs::Lent::smallest_lent), unfolding(job_rules::specs::Apply::job_buffers))]
 fn least_of(
-    state: JobState,
+    state: &JobState,
     spacing: u32,
     share: f64,
     ledger: &mut Ledger,
 ) -> Result<Smallest, Refusal>
-    ensures { IsLeast (smallest_call (job_map state) (job_spacing spacing) share ledger.old job_buffers) result ledger.new }
+    ensures { IsLeast (smallest_call (job_map state.now) (job_spacing spacing) share ledger.old job_buffers) result ledger.new }
 {
-    let map = map_of(&state);
+    let map = map_of(state);
     let side = spacing_of(spacing);
     smallest::smallest_radius(
         &map,
@@ -99,11 +98,11 @@ fn least_of(
 
 // R: the smallest radius's line, and the ledger as the call leaves it, so that a later R need not search its radii again.
 #[tactic(auto, using(crate::proofs::Lent::least_found, crate::proofs::Lent::least_refused))]
-pub(crate) fn run_least(state: JobState, spacing: u32, share: f64) -> Result<Applied, Refusal>
-    ensures { settled_in state result ≡ later_in state (Least spacing share) }
+pub(crate) fn run_least(state: &mut JobState, spacing: u32, share: f64) -> Result<Printed, Refusal>
+    ensures { settled_in state.new result ≡ later_in state.old (Least spacing share) }
 {
     let mut ledger = state.ledger;
     let found = least_of(state, spacing, share, &mut ledger)?;
-    let next = job_world::with_ledger(state, ledger);
-    Ok(change::go_on(next, job_lines::least_line(found)))
+    job_world::with_ledger(state, ledger);
+    Ok(change::go_on(job_lines::least_line(found)))
 }

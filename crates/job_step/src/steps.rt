@@ -3,7 +3,7 @@ ghost use Rattle.std.specs.Prelude.{◌≡◌};
 ghost use Rattle.job_rules.specs.State.{first_in, later_in, applied_in, stepped_to, stepped_in};
 ghost use Rattle.job_step.specs.State.{settled_in};
 
-use crate::{calls, change};
+use crate::{Printed, calls, change};
 use grid::Refusal;
 use job_commands::Command;
 use job_rules::{Applied, StepResult};
@@ -11,8 +11,8 @@ use job_world::JobState;
 
 // The first command: G, and 14 for any other.
 #[tactic(auto, unfolding(job_rules::specs::State::done_in, job_rules::specs::Apply::first))]
-fn first(state: JobState, command: Command) -> Result<Applied, Refusal>
-    ensures { settled_in state result ≡ first_in state command }
+fn first(state: &mut JobState, command: Command) -> Result<Printed, Refusal>
+    ensures { settled_in state.new result ≡ first_in state.old command }
 {
     match command {
         Command::SetGrid(grid) => change::set_grid(state, grid),
@@ -21,9 +21,9 @@ fn first(state: JobState, command: Command) -> Result<Applied, Refusal>
 }
 
 // A command after G, by the function of its letter; a second G is 14.
-#[tactic(auto, unfolding(job_rules::specs::State::done_in, job_rules::specs::Apply::in_world))]
-fn later(state: JobState, command: Command) -> Result<Applied, Refusal>
-    ensures { settled_in state result ≡ later_in state command }
+#[tactic(auto, unfolding(job_rules::specs::State::done_in, job_rules::specs::State::command_state, job_rules::specs::Apply::in_world))]
+fn later(state: &mut JobState, command: Command) -> Result<Printed, Refusal>
+    ensures { settled_in state.new result ≡ later_in state.old command }
 {
     match command {
         Command::SetGrid(_) => Err(Refusal::Turn),
@@ -37,22 +37,26 @@ fn later(state: JobState, command: Command) -> Result<Applied, Refusal>
         } => change::set_angle(state, centre, row, offset, angle),
         Command::Most { spacing, km } => calls::run_most(state, spacing, km),
         Command::Least { spacing, share } => calls::run_least(state, spacing, share),
-        Command::End => Ok(change::end(state)),
+        Command::End => Ok(change::end()),
     }
 }
 
 // The command, in its turn.
 #[tactic(auto, unfolding(job_rules::specs::State::applied_in, job_rules::specs::Apply::apply, job_world::specs::State::state_of))]
-pub fn apply(state: JobState, command: Command) -> Applied
+pub fn apply(mut state: JobState, command: Command) -> Applied
     ensures { result ≡ applied_in state command }
 {
     let result = if state.begun {
-        later(state, command)
+        later(&mut state, command)
     } else {
-        first(state, command)
+        first(&mut state, command)
     };
     match result {
-        Ok(applied) => applied,
+        Ok(printed) => Applied {
+            state,
+            line: printed.line,
+            last: printed.last,
+        },
         Err(refusal) => change::refuse(state, refusal),
     }
 }

@@ -58,43 +58,43 @@ pub fn put<T: Copy>(xs: &mut [T], place: usize, x: T)
     }
 }
 
-// The state after C, a map under way whatever the state was: that a job has begun is the caller's test. The ledger is
-// emptied by C, K and A, because its circles are those of the map before.
-#[tactic(auto, unfolding(crate::specs::State::count_state, crate::specs::State::ledger_state))]
-pub fn with_count(mut state: JobState, cell: Cell, count: u32) -> JobState
-    ensures { result ≡ count_state state cell count }
+// C: a map under way whatever the state was: that a job has begun is the caller's test. The ledger is emptied by C, K and A,
+// because its circles are those of the map before. Each changes the state in its place, since a copy would cost more than the command.
+#[tactic(auto, unfolding(crate::specs::State::count_state, crate::specs::World::emptied))]
+pub fn with_count(state: &mut JobState, cell: Cell, count: u32)
+    ensures { state.new ≡ count_state state.old cell count }
 {
     let place = job_sizes::count_place(state.grid, cell);
     put(&mut state.counts, place, count);
-    with_ledger(state, emptied(state.ledger))
+    state.begun = true;
+    state.ledger.len = 0;
 }
 
-// The state after K.
-#[tactic(auto, unfolding(crate::specs::State::cosine_state, crate::specs::State::ledger_state))]
-pub fn with_cosine(mut state: JobState, row: Row, cosine: f64) -> JobState
-    ensures { result ≡ cosine_state state row cosine }
+// K.
+#[tactic(auto, unfolding(crate::specs::State::cosine_state, crate::specs::World::emptied))]
+pub fn with_cosine(state: &mut JobState, row: Row, cosine: f64)
+    ensures { state.new ≡ cosine_state state.old row cosine }
 {
     put(&mut state.cosines, usize::from(row), cosine);
-    with_ledger(state, emptied(state.ledger))
+    state.begun = true;
+    state.ledger.len = 0;
 }
 
-// The state after A.
-pub fn with_angle(mut state: JobState, at: AngleIndices, angle: f64) -> JobState
-    ensures { result ≡ angle_state state at.centre at.row at.offset angle }
+// A.
+pub fn with_angle(state: &mut JobState, at: AngleIndices, angle: f64)
+    ensures { state.new ≡ angle_state state.old at.centre at.row at.offset angle }
 {
     let place = job_sizes::angle_place(state.grid, at);
     put(&mut state.angles, place, angle);
-    with_ledger(state, emptied(state.ledger))
+    state.begun = true;
+    state.ledger.len = 0;
 }
 
-// The state after R: its ledger is the call's.
+// R: its ledger is the call's.
 #[tactic(auto, unfolding(crate::specs::State::ledger_state))]
-pub fn with_ledger(state: JobState, ledger: Ledger) -> JobState
-    ensures { result ≡ ledger_state state ledger }
+pub fn with_ledger(state: &mut JobState, ledger: Ledger)
+    ensures { state.new ≡ ledger_state state.old ledger }
 {
-    JobState {
-        begun: true,
-        ledger,
-        ..state
-    }
+    state.begun = true;
+    state.ledger = ledger;
 }

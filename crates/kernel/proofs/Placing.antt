@@ -1,12 +1,14 @@
--- What the kernel's functions ask and give: a kernel at hand with its row, its radius and its people, and from an accepted map
+-- What the kernel's functions ask and give: a kernel by its rows, one at hand with its row, its radius and its people, and from an accepted map
 -- its sheet, a kernel placed on its table and the circle's people.
 use Prim.Native.Nat.{ℕ, ◌≤◌, ◌<◌}
 use mathlib.Core.Path.{◌≡◌, refl, sym, ap, ◌∙◌}
 use mathlib.Core.Bool.{true}
 use mathlib.Core.List.{List}
+use native.Mathlib.Omega.{arith}
 use lib.Ieee.{Float}
 use Rattle.grid.specs.declared.Row.{Row}
 use Rattle.grid.specs.declared.Col.{Col}
+use Rattle.grid.specs.declared.Grid.{Grid}
 use Rattle.grid.specs.Map.{Globe, Map, count}
 use Rattle.grid.specs.Questions.{sizes_in_range, sheet_in_order}
 use Rattle.grid.proofs.Answers.{Passed}
@@ -19,7 +21,7 @@ use Rattle.kernel.specs.Kernel.{kernel_of, in_kernel, kernel_population}
 use Rattle.reach.specs.Reach.{row_places}
 use Rattle.reach.specs.Requires.{OnSheet}
 use Rattle.kernel.specs.Requires.{CanSum}
-use Rattle.kernel.specs.State.{KernelAt}
+use Rattle.kernel.specs.State.{KernelAt, rows_only}
 use Rattle.kernel.proofs.Kernels.{kernel_banded, kernel_joined}
 use Rattle.kernel.proofs.Cells.{kernel_people}
 
@@ -27,6 +29,26 @@ use Rattle.kernel.proofs.Cells.{kernel_people}
 pub people_sheet : (m : Map) (k : Kernel) (col : Col) → kernel_population (counts_map m.globe.grid m.counts) k col ≡ kernel_population m k col
 unfolding kernel_population in_kernel count
 people_sheet m k col = refl
+
+-- ---- a kernel by its rows alone
+
+-- whatever row and radius it is of
+pub rows_alone : (k : Kernel) (row : Row) (km : Float)
+    → rows_only (record { row = row; km = km; north = k.north; end = k.end; reach = k.reach; run = k.run }) ≡ rows_only k
+rows_alone k row km = refl
+
+pub rows_placed : {g : Grid} {k : Kernel} {col : Col} → CanSum g k col → CanSum g (rows_only k) col
+rows_placed p =
+    let b = p.band in
+    record {
+      band = record { north_on = omega arith; end_on = omega (arith, b.north_on, b.end_on); on = b.on; touched = b.touched; missed = b.missed };
+      runs = record { onward = p.runs.onward; within = p.runs.within; alike = p.runs.alike };
+      on = p.on;
+    }
+
+pub rows_people : (m : Map) (k : Kernel) (col : Col) → kernel_population m (rows_only k) col ≡ kernel_population m k col
+unfolding kernel_population in_kernel
+rows_people m k col = refl
 
 -- ---- a kernel at hand
 

@@ -53,6 +53,13 @@ module _ (g : Grid) (sizes : sizes_in_range g ≡ true) (k : Kernel) where
   unfolding kernel_covers in_kernel closing
   covers_by_reach = all_ext g.height _ _ (λ r h. row_covered g.width (get_or k.reach r 0) (grid_sizes g sizes).some_columns)
 
+  module _ (n : ℕ) (e : n ≡ closing g) where
+    pub covers_yes : all_below g.height (λ r. ltb n (get_or k.reach r 0)) ≡ true → true ≡ kernel_covers g k
+    covers_yes a = sym (covers_by_reach ∙ (rw e at a))
+
+    pub covers_no : (r : ℕ) → r < g.height → ltb n (get_or k.reach r 0) ≡ false → false ≡ kernel_covers g k
+    covers_no r h a = sym (covers_by_reach ∙ all_fails g.height (λ i. ltb (closing g) (get_or k.reach i 0)) r h (rw e at a))
+
   -- as the reaches of the grid's rows are tested in turn
   abbrev pub rows_of : List ℕ
   rows_of = take g.height k.reach

@@ -22,6 +22,7 @@ use Rattle.sums.proofs.Bands.{band_span_rows}
 use Rattle.kernel.specs.declared.Kernel.{Kernel}
 use Rattle.kernel.specs.Kernel.{in_kernel, kernel_population}
 use Rattle.kernel.specs.Requires.{Banded}
+use Rattle.kernel.specs.State.{rows_only}
 
 -- fewer than n is at most n - 1
 below_pred : (d n : ℕ) → 0 < n → ltb d n ≡ leb d (n - 1)
@@ -72,8 +73,8 @@ module _ (m : Map) (col : Col) (reaches : List ℕ) where
       let n = count m (cell r i) in
       cond_case (λ (x : ℕ). x ≤ n) (ltb (column_distance m.globe.grid.width col.0 i) (get_or reaches r 0)) n 0 (λ e. le_refl n) (λ e. zero-le))))
 
--- nobody north of the band, and all within it
-module _ (m : Map) (col : Col) (k : Kernel) (b : Banded m.globe.grid k) where
+-- nobody north of the band, and all within it, wherever the kernel's own row lies
+module _ (m : Map) (col : Col) (k : Kernel) (b : Banded m.globe.grid (rows_only k)) where
   pub people_north : sum_below k.north.0 (reach_people m col k.reach) ≡ 0
   people_north = sum_zeros k.north.0 (reach_people m col k.reach) (λ r h. people_missed m col k.reach r (b.missed r (inl h)))
 

@@ -1,14 +1,14 @@
 -- Laws of the places read one at a time, as the loops of get, of the judge and of a put's place do: d is any entry.
-use Prim.Native.Nat.{ℕ, ◌+◌, ◌-◌, ◌≤◌, ◌<◌, ◌^◌, min}
+use Prim.Native.Nat.{ℕ, suc, ◌+◌, ◌-◌, ◌≤◌, ◌<◌, ◌^◌, min}
 use mathlib.Core.Path.{◌≡◌, refl, ap, ◌∙◌}
 use mathlib.Core.Bool.{Bool, true, false, ◌&&◌, cond}
 use mathlib.Core.List.{List, [], ◌∷◌}
 use native.Mathlib.Nat.{min-eq_left}
 use native.Mathlib.Numerals.{add-one}
 use native.Mathlib.Omega.{arith}
-use lib.Dec.{leb, ltb}
-use lib.ListN.{length, drop, get_or, length-take, drop_of_length-le}
-use lib.Seq.{drop-cons}
+use lib.Dec.{leb, ltb, eqb}
+use lib.ListN.{length, take, drop, get_or, length-take, drop_of_length-le}
+use lib.Seq.{drop-cons, get_or-take}
 use borrow.Author.Tests.{le-leb, lt-leb, leb-true, leb-false, ltb-true, ltb-false}
 use Rattle.std.specs.Option.{unwrap_or}
 use Rattle.std.specs.List.{position, position_or_len}
@@ -20,7 +20,7 @@ use Rattle.grid.specs.Grid.{ceiling, on_grid}
 use Rattle.candidates.specs.Candidate.{centre_of}
 use Rattle.ledger.specs.declared.Entry.{Entry}
 use Rattle.ledger.specs.declared.Ledger.{Ledger}
-use Rattle.ledger.specs.Ledger.{capacity, entries, entry_in_bounds, rising_from, all_in_bounds, ledger_in_order}
+use Rattle.ledger.specs.Ledger.{capacity, entries, find, entry_in_bounds, rising_from, all_in_bounds, ledger_in_order}
 use Rattle.ledger.specs.State.{place_of}
 
 pub length_entries : (l : Ledger) → length l.places ≡ capacity → length (entries l) ≡ min l.len capacity
@@ -29,6 +29,18 @@ length_entries l e = length-take l.len l.places ∙ ap (min l.len) e
 
 pub length_counted : (l : Ledger) → length l.places ≡ capacity → l.len ≤ capacity → length (entries l) ≡ l.len
 length_counted l e h = length_entries l e ∙ min-eq_left h
+
+-- no entry is left
+pub from_end : (l : Ledger) (i : ℕ) → length l.places ≡ capacity → min l.len capacity ≤ i → drop i (entries l) ≡ []
+from_end l i e h = drop_of_length-le (entries l) {i = i} (rw (length_entries l e) h)
+
+pub get_end : (es : List Entry) (km : ℕ) → es ≡ [] → find es km ≡ None
+unfolding find
+get_end es km e = rw e
+
+pub place_end : (es : List Entry) (km : ℕ) → es ≡ [] → place_of es km ≡ 0
+unfolding place_of
+place_end es km e = rw e
 
 pub place_le : (es : List Entry) (km : ℕ) → place_of es km ≤ length es
 unfolding place_of
@@ -80,8 +92,8 @@ order_end g least es i h = rw (drop_of_length-le es {i = i} h)
 
 module _ (es : List Entry) (i : ℕ) (d : Entry) (here : i < length es) where
   -- the entries from a place on begin with the one that stands there
-  from_here : drop i es ≡ get_or es i d ∷ drop (i + 1) es
-  from_here = rw add-one (drop-cons es i d here)
+  list_here : drop i es ≡ get_or es i d ∷ drop (i + 1) es
+  list_here = rw add-one (drop-cons es i d here)
 
   -- the entry there follows those before it, or it does not
   abbrev pub follows_here : Grid → ℕ → Bool
@@ -92,13 +104,55 @@ module _ (es : List Entry) (i : ℕ) (d : Entry) (here : i < length es) where
   unfolding rising_from all_in_bounds
   order_next g least y =
       let e = get_or es i d in
-      rw (from_here, and_left (leb least e.km.0) (entry_in_bounds g e) y, and_right (leb least e.km.0) (entry_in_bounds g e) y)
+      rw (list_here, and_left (leb least e.km.0) (entry_in_bounds g e) y, and_right (leb least e.km.0) (entry_in_bounds g e) y)
 
   pub order_stop : (g : Grid) (least : ℕ) → follows_here g least ≡ false → order_from g least (drop i es) ≡ false
   unfolding rising_from all_in_bounds
   order_stop g least n =
       let e = get_or es i d in
-      rw from_here (one_fails (leb least e.km.0) (rising_from (e.km.0 + 1) (drop (i + 1) es)) (entry_in_bounds g e) (all_in_bounds g (drop (i + 1) es)) n)
+      rw list_here (one_fails (leb least e.km.0) (rising_from (e.km.0 + 1) (drop (i + 1) es)) (entry_in_bounds g e) (all_in_bounds g (drop (i + 1) es)) n)
+
+-- the ledger's places, as its entries are
+module _ (l : Ledger) (i : ℕ) (d : Entry) (here : i < min l.len capacity) (whole : length l.places ≡ capacity) where
+  -- the entries from a place on begin with the one that stands there
+  pub from_here : drop i (entries l) ≡ get_or l.places i d ∷ drop (i + 1) (entries l)
+  unfolding entries
+  from_here =
+      let inside : i < length (take l.len l.places) = rw (length-take, whole) here in
+      rw (add-one, drop-cons (take l.len l.places) i d inside, get_or-take l.len l.places i d (omega arith))
+
+  pub get_here : (km : ℕ) → eqb (get_or l.places i d).km.0 km ≡ true → find (drop i (entries l)) km ≡ Some (get_or l.places i d).centre
+  unfolding find
+  get_here km e = rw (from_here, e)
+
+  pub get_next : (km : ℕ) → eqb (get_or l.places i d).km.0 km ≡ false → find (drop i (entries l)) km ≡ find (drop (i + 1) (entries l)) km
+  unfolding find
+  get_next km n = rw (from_here, n)
+
+  pub place_here : (km : ℕ) → leb km (get_or l.places i d).km.0 ≡ true → place_of (drop i (entries l)) km ≡ 0
+  unfolding place_of
+  place_here km h = rw (from_here, h)
+
+  pub place_next : (km : ℕ) → leb km (get_or l.places i d).km.0 ≡ false → place_of (drop i (entries l)) km ≡ suc (place_of (drop (i + 1) (entries l)) km)
+  unfolding place_of
+  place_next km h = rw (from_here, h)
+
+  -- the entry there follows those before it, or it does not
+  abbrev pub follows_at : Grid → ℕ → Bool
+  follows_at g least = leb least (get_or l.places i d).km.0 && entry_in_bounds g (get_or l.places i d)
+
+  pub order_next_at : (g : Grid) (least : ℕ) → follows_at g least ≡ true
+      → order_from g least (drop i (entries l)) ≡ order_from g ((get_or l.places i d).km.0 + 1) (drop (i + 1) (entries l))
+  unfolding rising_from all_in_bounds
+  order_next_at g least y =
+      let e = get_or l.places i d in
+      rw (from_here, and_left (leb least e.km.0) (entry_in_bounds g e) y, and_right (leb least e.km.0) (entry_in_bounds g e) y)
+
+  pub order_stop_at : (g : Grid) (least : ℕ) → follows_at g least ≡ false → order_from g least (drop i (entries l)) ≡ false
+  unfolding rising_from all_in_bounds
+  order_stop_at g least n =
+      let e = get_or l.places i d in
+      rw from_here (one_fails (leb least e.km.0) (rising_from (e.km.0 + 1) (drop (i + 1) (entries l))) (entry_in_bounds g e) (all_in_bounds g (drop (i + 1) (entries l))) n)
 
 -- n places are free, found without the sum
 pub same_leb : (len n most : ℕ) → n ≤ most → leb len (most - n) ≡ leb (len + n) most

@@ -50,6 +50,10 @@ module _ {A : Type 0} where
       rw (length-append, add-one, drop-cons l (length xs) v)
       (set_at xs (get_or l (length xs) v) (drop (suc (length xs)) l) v n (sym e) ∙ sym (append_snoc xs v (drop (suc (length xs)) l)))
 
+  -- the step of a loop that appends an element at a time
+  pub onto_step : (xs ys l s : List A) (v : A) (n : ℕ) → s ≡ onto xs l → n ≡ length xs → n < length l → ys ≡ xs ++ v ∷ [] → set s n v ≡ onto ys l
+  onto_step xs ys l s v n e k h f = rw (e, f) (onto_snoc xs l v n k h)
+
   -- the step of a loop that appends a list at a time
   pub onto_append : (xs ys l s : List A) (n : ℕ) → length xs ≡ n → s ≡ onto xs l → take n s ++ ys ++ drop (n + length ys) s ≡ onto (xs ++ ys) l
   unfolding onto

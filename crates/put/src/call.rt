@@ -1,9 +1,10 @@
-// The put call: its questions in order, then the put, over a ledger that is lent.
+// The put call: its questions in order, then the put; over a ledger that is lent, and by value.
 ghost use Rattle.std.specs.Prelude.{◌≡◌};
 ghost use Rattle.grid.specs.Answer.{first_no, decide};
 ghost use Rattle.grid.specs.Refusal.{answer_of};
 ghost use Rattle.put.specs.Call.{put_questions, put_call, put_gave};
 
+use crate::PutResult;
 use grid::{Grid, Refusal};
 use ledger::{Entry, Ledger};
 
@@ -31,4 +32,16 @@ pub fn put_lent(ledger: &mut Ledger, grid: Grid, entry: Entry) -> Result<(), Ref
     put_asked(grid, ledger, entry)?;
     ledger_store::put(ledger, entry);
     Ok(())
+}
+
+// The put by value, for whoever lends nothing: a refusal gives the ledger back as it came.
+pub fn put_entry(grid: Grid, ledger: Ledger, entry: Entry) -> PutResult
+    ensures { put_gave result.answer result.ledger ≡ put_call grid ledger entry }
+{
+    let mut held = ledger;
+    let answer = put_lent(&mut held, grid, entry);
+    PutResult {
+        answer,
+        ledger: held,
+    }
 }

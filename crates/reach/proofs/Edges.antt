@@ -2,17 +2,18 @@
 use Prim.Native.Nat.{ℕ, ◌+◌, ◌-◌, ◌*◌, ◌/◌, ◌≤◌, ◌<◌}
 use mathlib.Core.Path.{◌≡◌, sym, ap, ◌∙◌}
 use mathlib.Core.Bool.{Bool, true, false}
-use mathlib.Core.List.{List}
+use mathlib.Core.List.{List, []}
 use native.Mathlib.Decide.{dec_lt}
 use native.Mathlib.Omega.{arith}
 use lib.ListN.{length, get_or, take, drop}
 use Rattle.std.proofs.lemmas.Grind.{common_steps}
 use lib.Ieee.{Float, le, nan}
 use Rattle.std.specs.List.Sorted.{IsPartitionedBy, IsPartitionPoint}
+use Rattle.lists.proofs.Bools.{not_both}
 use Rattle.grid.specs.declared.Row.{Row}
 use Rattle.grid.specs.declared.Grid.{Grid}
 use Rattle.grid.specs.Grid.{closing}
-use Rattle.grid.specs.Map.{Globe, angle_at, sheet_index, globe_of}
+use Rattle.grid.specs.Map.{Globe, angle_at, sheet_index, globe_of, sheet_of}
 use Rattle.grid.specs.Requires.{InSheet}
 use Rattle.grid.proofs.Index.{place_in}
 use Rattle.reach.specs.Reach.{reach}
@@ -39,6 +40,13 @@ module _ (p : ℕ → Bool) where
         | no q ↦ let f : n ≡ high = omega (arith, e.to) in rw f (last (omega arith))
       ]
 
+  -- a number that passes and one that fails are not the same
+  pub apart : (m n : ℕ) → m ≤ n → p m ≡ true → p n ≡ false → m < n
+  apart m n h t f = elim (dec_lt m n) [
+    | yes q ↦ q
+    | no q ↦ let e : n ≡ m = omega arith in absurd (not_both (p m) t (rw e at f))
+  ]
+
 -- a row of the sheet, found by its first place
 module _ {g : Grid} {angles : List Float} {c r : Row} (p : PairOnSheet g angles c r) where
   pub place_of : (k : ℕ) → k ≤ closing g → InSheet g c r k
@@ -55,6 +63,10 @@ module _ {g : Grid} {angles : List Float} {c r : Row} (p : PairOnSheet g angles 
     pub row_fits : (k : ℕ) → k ≤ g.width / 2 → first + k < length angles
     unfolding sheet_index closing
     row_fits k l = omega (arith, e, place_in g c r k (place_of k l), sheet_length p.sheet)
+
+    pub place_fits_lem : (k : ℕ) → k ≤ closing g → first + k < length angles
+    unfolding closing
+    place_fits_lem k l = row_fits k l
 
     pub last_fits : first + g.width / 2 < length angles
     last_fits = row_fits (g.width / 2) (omega arith)
@@ -81,6 +93,10 @@ module _ {g : Grid} {angles : List Float} {c r : Row} (p : PairOnSheet g angles 
           sym (reach_edge s (sheet_order p.sheet) c.0 p.centre_on limit r.0 p.row_on n
           (record { from = d.from; to = d.to; passed = λ h. passes_is (n - 1) ∙ d.passed h; failed = λ h. passes_is n ∙ d.failed h }))
           ∙ reach_sheet g angles p.sheet.cosines cosines c r limit
+
+      pub edge_reach : (n : ℕ) → Edge (passes angles first limit) 0 (closing g + 1) n → n ≡ reach (sheet_of g angles) c r limit
+      unfolding closing
+      edge_reach n d = row_reach [] n d
 
       -- the angles of the row do not fall, and where they leave the limit the reach ends
       same : (k : ℕ) → (d : Float) → k < length row_part → get_or row_part k d ≡ get_or angles (first + k) nan

@@ -11,8 +11,9 @@ use Rattle.lists.proofs.Bools.{and_left}
 use Rattle.floats.specs.Binary.{whole}
 use Rattle.grid.specs.declared.Grid.{Grid}
 use Rattle.grid.specs.Grid.{on_grid}
-use Rattle.grid.specs.Map.{Globe, Map}
+use Rattle.grid.specs.Map.{Globe, Map, angle_at, globe_of, sheet_of}
 use Rattle.sums.specs.Sums.{total}
+use Rattle.circle_cells.specs.Circle.{angle_to, in_circle, covers_whole_grid}
 use Rattle.reach.specs.Requires.{OnSheet}
 use Rattle.kernel.specs.declared.Kernel.{Kernel}
 use Rattle.kernel.specs.Kernel.{kernel_of, kernel_covers}
@@ -21,6 +22,7 @@ use Rattle.spacing.specs.declared.Spacing.{Spacing}
 use Rattle.candidates.specs.declared.Candidate.{Candidate}
 use Rattle.ledger.specs.declared.Ledger.{Ledger}
 use Rattle.climb.specs.Climb.{Ended, all_short, reached_at}
+use Rattle.share.specs.declared.Target.{Target}
 use Rattle.share.specs.Target.{target_of, predicate_slack_persons}
 use Rattle.probes.specs.declared.RunEnd.{RunEnd}
 use Rattle.probes.specs.Probes.{Run, smallest_run}
@@ -56,3 +58,9 @@ pub row_on : {g : Grid} {angles : List Float} {people : ℕ} {e : RunEnd} → Ca
 unfolding on_grid
 row_on {g} {e = e} can =
     record { sheet = can.sheet; on = ltb-true _ _ (and_left (ltb e.centre.row.0 g.height) (ltb e.centre.col.0 g.width) can.centre.on) }
+
+-- no cosine is read
+pub answer_sheet : (g : Grid) (angles cosines : List Float) (t : Target) (slack : Float) (people : ℕ) (e : RunEnd)
+    → answer_by (sheet_of g angles) t slack people e ≡ answer_by (globe_of g angles cosines) t slack people e
+unfolding answer_by end_covers covers_whole_grid in_circle angle_to angle_at
+answer_sheet g angles cosines t slack people e = refl

@@ -256,7 +256,7 @@ module _ (g : Grid) (xs : List Float) where
     pub stands : Stands g xs j.centre j.row
     pub inside : at ≤ length xs
 
-  between_start : Between 0 (judge_start g)
+  pub between_start : Between 0 (judge_start g)
   unfolding judge_start fold
   between_start =
       record {
@@ -296,7 +296,7 @@ module _ {g : Grid} {xs : List Float} {at : ℕ} {j : SheetJudge} (B : Between g
     ]
 
     -- past the last run the verdict is the sheet's
-    between_end : g.height ≤ j.centre → judged g xs ≡ j.well
+    pub between_end : g.height ≤ j.centre → judged g xs ≡ j.well
     unfolding judged
     between_end l =
         ap (λ ys. (fold judge_feed (judge_start g) ys).well) (sym (take-length xs))
@@ -310,13 +310,13 @@ module _ {g : Grid} {xs : List Float} {at : ℕ} {j : SheetJudge} (B : Between g
         | no p ↦ omega arith
       ]
 
-      run_inside : at + (closing g + 1) ≤ length xs
+      pub run_inside : at + (closing g + 1) ≤ length xs
       run_inside =
           let in-sheet : row_place g xs j.centre j.row + closing g < length xs = rw size (digits_lt (digits_lt l row_on) (omega arith)) in
           omega (arith, in-sheet, B.place)
 
       -- the angles from here on begin with the judge's next run
-      between_run : NextRun j (take (closing g + 1) (drop at xs))
+      pub between_run : NextRun j (take (closing g + 1) (drop at xs))
       between_run =
           record {
             fresh = ap (λ j. j.offset) here;
@@ -343,7 +343,7 @@ module _ {g : Grid} {xs : List Float} {at : ℕ} {j : SheetJudge} (B : Between g
             inside = run_inside;
           }
 
-      between_next : Between g xs (at + (closing g + 1)) next
+      pub between_next : Between g xs (at + (closing g + 1)) next
       between_next = elim (dec_lt (suc j.row) g.height) [
         | yes p ↦
             next_at j.centre (suc j.row) (run_next ∙ next_south g xs j.centre j.row p)

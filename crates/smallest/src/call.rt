@@ -18,7 +18,7 @@ use probes::Smallest;
 use search_rules::LevelBuffers;
 use share::Aim;
 use spacing::Spacing;
-use table::Table;
+use table::SummedTable;
 
 // The smallest radius of a map whose questions are answered and whose sums are filled.
 fn settle(
@@ -35,11 +35,9 @@ fn settle(
         result ledger.new }
 {
     let grid = map.globe.grid;
-    let table = Table {
-        grid,
-        sums: map.sums,
-    };
-    let total = table.whole();
+    let table = table::table_of(grid, map.sums);
+    let summed = SummedTable { table };
+    let total = summed.whole();
     let target = share::target_of(share, total);
     let slack = share::predicate_slack_persons(grid, target.total);
     let aim = Aim {

@@ -139,7 +139,7 @@ module _ (gr : Grid) (angles cosines : List Float) (sums words : List ℕ) (km :
           (rw (blocks_cut words start) at can.rectangles))
 
       module _ (end : ℕ) (end_is : end ≡ min (start + size) n) where
-        level_on : start < end
+        pub level_on : start < end
         level_on = omega (arith, chunks_enough n)
 
         to : end ≤ n

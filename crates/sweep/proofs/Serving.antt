@@ -2,6 +2,7 @@
 use mathlib.Core.Path.{◌≡◌, ap, subst, ◌∙◌}
 use mathlib.Core.Bool.{true}
 use mathlib.Core.List.{List}
+use mathlib.Core.Logic.{◌⊎◌, inl, inr}
 use native.Mathlib.Omega.{arith}
 use lib.Ieee.{Float}
 use Rattle.grid.specs.declared.Row.{Row}
@@ -11,7 +12,7 @@ use Rattle.kernel.specs.declared.Kernel.{Kernel}
 use Rattle.kernel.specs.State.{KernelAt}
 use Rattle.kernel.proofs.Placing.{kernel_km}
 use Rattle.blocks.specs.declared.Block.{Block}
-use Rattle.blocks.specs.Block.{probe, same_shape}
+use Rattle.blocks.specs.Block.{probe, same_shape, Rectangle}
 use Rattle.blocks.proofs.Shapes.{shape_north, shape_south}
 use Rattle.bounds.specs.Bound.{wide_km}
 use Rattle.bounds.specs.State.{wide_kernel}
@@ -41,3 +42,15 @@ module _ (g : Grid) (angles cosines : List Float) (km : Float) where
   pub serves_own : (shape b : Block) (k : Kernel) → shape ≡ b → k ≡ wide_kernel (globe_of g angles cosines) km b → Serves g angles cosines km shape k
   serves_own shape b k s is x r e =
       is ∙ same_wide_kernel (globe_of g angles cosines) km b x (subst (λ (y : Block). same_shape y x ≡ true) s e) r.columns
+
+  -- what is kept serves as before
+  pub serves_still : (shape shape' : Block) (k k' : Kernel) → shape' ≡ shape → k' ≡ k → Serves g angles cosines km shape k → Serves g angles cosines km shape' k'
+  serves_still shape shape' k k' s is served x r e = is ∙ served x r (subst (λ (y : Block). same_shape y x ≡ true) s e)
+
+  -- the kernel at hand for a block: built for it, or kept where its shape is the one served
+  pub wide_now : (b : Block) (r : Rectangle g b) (shape shape' : Block) (k k' : Kernel) → Serves g angles cosines km shape k
+      → ((shape' ≡ b) × (k' ≡ wide_kernel (globe_of g angles cosines) km b)) ⊎ ((same_shape shape b ≡ true) × (shape' ≡ shape) × (k' ≡ k))
+      → (k' ≡ wide_kernel (globe_of g angles cosines) km b) × Serves g angles cosines km shape' k'
+  wide_now b r shape shape' k k' served (inl built) = (built.1, serves_own shape' b k' built.0 built.1)
+  wide_now b r shape shape' k k' served (inr kept) =
+      (kept.2 ∙ served b r kept.0, serves_still shape shape' k k' kept.1 kept.2 served)

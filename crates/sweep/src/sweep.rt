@@ -15,7 +15,7 @@ use chunk_work::ChunkWork;
 use grid::{Grid, Row};
 use kernel_sums::circle_population;
 use levels::{ChunkResult, SummedMap};
-use table::Table;
+use table::SummedTable;
 use tally::{SearchStats, Tally};
 
 // A chunk begins with what was held when its level began, and with two kernels that count as built: of the middle row and the plain radius.
@@ -74,10 +74,8 @@ pub(crate) fn chunk(
         following.old live following.new result }
 {
     let grid = map.globe.grid;
-    let table = Table {
-        grid,
-        sums: map.sums,
-    };
+    let table = table::table_of(grid, map.sums);
+    let summed = SummedTable { table };
     let mut exact = kernel::build(&map.globe, Row(grid.height / 2), km);
     let mut one = Kept::of_no_shape(exact);
     let mut two = one;
@@ -89,10 +87,10 @@ pub(crate) fn chunk(
         // Each branch asks for itself: where the kernel is chosen first and asked once, a search takes 1 to 3 in 100 more instructions.
         let (wide, bound) = if chunk_work::odd_columns(block) {
             one.serve(map, km, block);
-            (one.kernel.km, circle_population(table, &one.kernel, p.col))
+            (one.kernel.km, circle_population(summed, &one.kernel, p.col))
         } else {
             two.serve(map, km, block);
-            (two.kernel.km, circle_population(table, &two.kernel, p.col))
+            (two.kernel.km, circle_population(summed, &two.kernel, p.col))
         };
         let survives = chunk_work::survives(work, bound);
         let mut population = bound;
@@ -100,7 +98,7 @@ pub(crate) fn chunk(
             if exact.row != p.row {
                 exact = kernel::build(&map.globe, p.row, km);
             }
-            population = circle_population(table, &exact, p.col);
+            population = circle_population(summed, &exact, p.col);
         }
         work = chunk_work::examined(work, block, wide, survives, population);
         at = write_children(survives, block, following, at);

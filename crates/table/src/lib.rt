@@ -16,7 +16,20 @@ use sums::{ColSpan, RowBand, Rows};
 pub struct Table<'a> {
     pub grid: Grid,
     pub sums: &'a [u64],
-    pub ghost summed: { Summed grid sums.now },
+}
+
+// A table of what is lent; it reads nothing, and asks nothing of the sums.
+pub fn table_of<'a>(grid: Grid, sums: &'a [u64]) -> Table<'a>
+    ensures { result ≡ record { grid = grid; sums = sums.entry } }
+{
+    Table { grid, sums }
+}
+
+// A table whose sums are those of the grid's counts: whoever makes one shows it, and what is read of it asks for it no more.
+#[derive(Clone, Copy)]
+pub struct SummedTable<'a> {
+    pub table: Table<'a>,
+    pub ghost summed: { Summed table.grid table.sums.now },
 }
 
 // Half the width and more: every column. Asked by the sum, from which the compiler knows, where it is no full turn, how a span's ends lie.
@@ -28,27 +41,27 @@ fn full_turn(grid: Grid, half: u32) -> bool
     grid.width <= half + half + 1
 }
 
-impl<'a> Table<'a> {
+impl<'a> SummedTable<'a> {
     // The word of a corner: the people above a row and west of a column, either of which may be one past the last. The row's words come first:
     // corners of one row then share where it begins, which an index of the whole table would work out for each.
     #[tactic(auto, using(sums::proofs::Laws::corner_place))]
     pub fn corner(self, row: u32, col: u32) -> u64
-        requires { AtCorner self.grid row col }
-        ensures { result ≡ corner (table_map self.entry.grid self.entry.sums.now) row col }
+        requires { AtCorner self.table.grid row col }
+        ensures { result ≡ corner (table_map self.entry.table.grid self.entry.table.sums.now) row col }
     {
         // By `as`: no From leads from u32 to usize, and a corner's numbers are no Row and no Col, since they may be one past the last. The
         // width too: asked of `Grid::columns` it makes a search 7 % slower.
-        let stride = self.grid.width as usize + 1;
+        let stride = self.table.grid.width as usize + 1;
         let from = row as usize * stride;
-        let words = &self.sums[from..];
+        let words = &self.table.sums[from..];
         words[col as usize]
     }
 
     // The people of some rows west of a column: two words.
     #[tactic(auto, using(sums::proofs::Laws::corner_rows))]
     pub fn strip(self, rows: Rows, col: u32) -> u64
-        requires { StripOnTable self.grid rows col }
-        ensures { result ≡ rectangle_population (table_map self.entry.grid self.entry.sums.now) rows 0 col }
+        requires { StripOnTable self.table.grid rows col }
+        ensures { result ≡ rectangle_population (table_map self.entry.table.grid self.entry.table.sums.now) rows 0 col }
     {
         let below = self.corner(rows.end, col);
         let above = self.corner(rows.north, col);
@@ -58,8 +71,8 @@ impl<'a> Table<'a> {
     // The people of some rows from a column to before another: four words.
     #[tactic(auto, using(sums::proofs::Laws::rectangle_cut))]
     fn inland(self, rows: Rows, west: u32, end: u32) -> u64
-        requires { InlandOnTable self.grid rows west end }
-        ensures { result ≡ rectangle_population (table_map self.entry.grid self.entry.sums.now) rows west end }
+        requires { InlandOnTable self.table.grid rows west end }
+        ensures { result ≡ rectangle_population (table_map self.entry.table.grid self.entry.table.sums.now) rows west end }
     {
         self.strip(rows, end) - self.strip(rows, west)
     }
@@ -69,8 +82,8 @@ impl<'a> Table<'a> {
     // in common.
     #[tactic(auto, using(sums::proofs::Laws::rectangle_total, sums::proofs::Bands::band_plain, sums::proofs::Bands::band_seam))]
     pub fn population(self, band: RowBand, span: ColSpan) -> u64
-        requires { OnTable self.grid band span }
-        ensures { result ≡ band_population (table_map self.entry.grid self.entry.sums.now) band span }
+        requires { OnTable self.table.grid band span }
+        ensures { result ≡ band_population (table_map self.entry.table.grid self.entry.table.sums.now) band span }
     {
         let rows = band.rows();
         let west = span.west.0;
@@ -79,15 +92,15 @@ impl<'a> Table<'a> {
         if west <= east {
             return self.inland(rows, west, end);
         }
-        self.inland(rows, west, self.grid.width) + self.strip(rows, end)
+        self.inland(rows, west, self.table.grid.width) + self.strip(rows, end)
     }
 
     // The people of the whole extent: the last corner.
     #[tactic(auto, unfolding(sums::specs::Sums::total))]
     pub fn whole(self) -> u64
-        ensures { result ≡ total (table_map self.entry.grid self.entry.sums.now) }
+        ensures { result ≡ total (table_map self.entry.table.grid self.entry.table.sums.now) }
     {
-        self.corner(self.grid.height, self.grid.width)
+        self.corner(self.table.grid.height, self.table.grid.width)
     }
 
     // The people of a band's columns at most `half` from the centre column around the ring: those of a span, asked of the table. A full turn is
@@ -95,11 +108,11 @@ impl<'a> Table<'a> {
     // the seam lies between the ends, and `population` does not test for it again, as it would if the ends were chosen first.
     #[tactic(auto, using(crate::proofs::Around::around), unfolding(grid::specs::Grid::closing))]
     pub fn band_span(self, band: RowBand, centre: Col, half: u32) -> u64
-        requires { InTable self.grid band centre half }
-        ensures { result ≡ band_span (table_map self.entry.grid self.entry.sums.now) band centre half }
+        requires { InTable self.table.grid band centre half }
+        ensures { result ≡ band_span (table_map self.entry.table.grid self.entry.table.sums.now) band centre half }
     {
-        let width = self.grid.width;
-        if full_turn(self.grid, half) {
+        let width = self.table.grid.width;
+        if full_turn(self.table.grid, half) {
             return self.strip(band.rows(), width);
         }
         let east = centre.0 + half;

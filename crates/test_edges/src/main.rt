@@ -9,11 +9,14 @@ mod print;
 mod puts;
 
 use play::Game;
-use std::{fs, io};
+use std::io;
 use test_cases::Board;
 
-// The most numbers of a line, and the arrays of the largest map: one cell and one row beyond what the calls accept.
+// The most numbers of a line, the bytes of the list, and the arrays of the largest map: one cell and one row beyond what the
+// calls accept.
 const NUMBERS: usize = 128;
+
+const LIST: usize = 131072;
 
 const COUNTS: usize = 181;
 
@@ -32,7 +35,7 @@ fn line_played<R: Print + AllocGlobal>(rt: &R, game: &mut Game, text: &[u8]) -> 
 }
 
 fn main(rt: HostRuntime) -> io::Result<()> {
-    let list = fs::read(&rt, "cases.txt")?;
+    let list = test_lines::read(&rt, "cases.txt", LIST)?;
     let map = test_cases::none(0, 0, 0);
     let mut game = Game {
         board: Board::new(rt.alloc(), map, COUNTS, ANGLES, ROWS)?,

@@ -7,7 +7,8 @@ mod text;
 
 use damage::Tally;
 use std::alloc::{AllocError, Global};
-use std::{fs, io};
+use std::io;
+use std::rt::Files;
 
 // The jobs of a list, and what damaged copies printed.
 #[derive(Clone, Copy)]
@@ -20,16 +21,21 @@ pub struct Score {
 // A job of at most so many bytes is damaged too.
 const SHORT: usize = 256;
 
-// The bytes of what a job prints.
+// The bytes of a list, of a job, and of what a job prints.
+const LIST: usize = 262144;
+
+const JOB: usize = 65536;
+
 const PRINTED: usize = 65536;
 
 impl Score {
-    // The job, whose lines stand at the front of the list.
+    // The job, whose lines stand at the front of the list. A job of more bytes than there may be is not run, and differs.
     fn play(&mut self, job: &mut [u8], list: &[u8], room: &mut [u8], damages: bool) {
-        let count = job_output::run(job, room);
-        let agrees = match room.get(..count) {
-            Some(printed) => text::goes_on_with(list, printed),
-            None => false,
+        let agrees = if job.len() <= JOB {
+            let count = job_output::run(job, room);
+            text::goes_on_with(list, room, count)
+        } else {
+            false
         };
         if agrees {
             self.agree = self.agree.saturating_add(1);
@@ -51,17 +57,26 @@ fn played(alloc: Global, list: &[u8], damages: bool) -> Result<Score, AllocError
         tally: Tally::none(),
     };
     let mut room = vec![in alloc; 0u8; PRINTED]?;
-    // No iterator over lines gives what stands behind one, which a job's output is compared with.
+    // What stands behind a line, which a job's output is compared with.
     let mut rest = list;
-    while let Some(end) = rest.iter().position(|b| *b == b'\n') {
-        let (line, behind) = rest.split_at(end + 1);
-        rest = behind;
+    for line in list.split_inclusive(|b| *b == b'\n') {
+        rest = test_lines::beyond(rest, line.len());
         if line.first() == Some(&b'J') {
             let mut job = text::decoded(alloc, line)?;
             score.play(&mut job, rest, &mut room, damages);
         }
     }
     Ok(score)
+}
+
+// The list is let go before the next one is read.
+fn read_list<R: Files + Print + AllocGlobal>(
+    rt: &R,
+    name: &str,
+    damages: bool,
+) -> io::Result<Score> {
+    let list = test_lines::read(rt, name, LIST)?;
+    Ok(played(rt.alloc(), &list, damages)?)
 }
 
 fn say_score(rt: &impl Print, name: &str, score: &Score) -> io::Result<()> {
@@ -72,11 +87,10 @@ fn say_score(rt: &impl Print, name: &str, score: &Score) -> io::Result<()> {
 }
 
 fn main(rt: HostRuntime) -> io::Result<()> {
-    let jobs = fs::read(&rt, "jobs.txt")?;
-    let edges = fs::read(&rt, "edges.txt")?;
-    let listed = played(rt.alloc(), &jobs, true)?;
+    let listed = read_list(&rt, "jobs.txt", true)?;
+    let edges = read_list(&rt, "edges.txt", false)?;
     say_score(&rt, "the original's", &listed)?;
-    say_score(&rt, "edges", &played(rt.alloc(), &edges, false)?)?;
+    say_score(&rt, "edges", &edges)?;
     let tally = listed.tally;
     println!(rt; "damaged copies {}", tally.copies)?;
     println!(rt; "not refused {}", tally.not_refused)?;

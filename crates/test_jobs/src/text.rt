@@ -39,10 +39,14 @@ pub(crate) fn decoded(alloc: Global, line: &[u8]) -> Result<Vec<u8>, AllocError>
     Ok(job)
 }
 
-// Whether the text goes on with the printed bytes, and then with no further line of a job: most, least, refused.
-pub(crate) fn goes_on_with(text: &[u8], printed: &[u8]) -> bool {
-    match text.strip_prefix(printed) {
-        Some(rest) => !matches!(rest.first(), Some(b'm' | b'l' | b'r')),
-        None => false,
-    }
+// The byte at a place, 0 beyond the end.
+fn byte_at(text: &[u8], at: usize) -> u8 {
+    text.get(at).copied().unwrap_or(0)
+}
+
+// Whether the text goes on with the printed bytes, as many as were counted, and then with no further line of a job: most, least,
+// refused. Where more were counted than there was room for, those behind the room are 0, as the text's are behind its end.
+pub(crate) fn goes_on_with(text: &[u8], printed: &[u8], count: usize) -> bool {
+    (0..count).all(|at| byte_at(text, at) == byte_at(printed, at))
+        && !matches!(byte_at(text, count), b'm' | b'l' | b'r')
 }

@@ -1,10 +1,10 @@
 -- Words of a line and of a buffer: those at its front, and those stored from a place on.
-use Rattle.std.proofs.Common.{◌≡◌, ℕ, suc, ◌+◌, ◌-◌, ◌≤◌, min, not, eqb, List, [], ◌∷◌, ◌++◌, refl, sym, ap, ◌∙◌, arith, length, take, drop, set, add-zero, take-append-drop, append_assoc, length-take-le, drop-drop, get_or-drop}
+use Rattle.std.proofs.Common.{◌≡◌, ℕ, suc, ◌+◌, ◌-◌, ◌≤◌, ◌<◌, min, Bool, true, false, not, eqb, List, [], ◌∷◌, ◌++◌, refl, sym, ap, ◌∙◌, arith, length, take, drop, get_or, set, add-zero, add-one, take-append-drop, append_assoc, length-take-le, drop-drop, get_or-drop}
 use Rattle.std.proofs.lemmas.List.Edits.{sets, sets-eq}
 use native.Mathlib.Nat.{min-eq_left, min-eq_right, min-le_right, le_of_lt, add-suc, suc-add}
 use lib.Dec.{leb}
-use lib.ListN.{drop_of_length-le}
-use lib.Seq.{take_all, take-length, drop-length, set_out, length-sets}
+use lib.ListN.{drop_of_length-le, get_or-eq_default}
+use lib.Seq.{take_all, take-length, take-suc, drop-length, set_out, length-sets}
 use borrow.Author.Tests.{leb-true, leb-false}
 use mir.Val.{bool_byte}
 use Rattle.lists.proofs.Bools.{cases, byte_one}
@@ -12,6 +12,10 @@ use Rattle.lists.proofs.Sums.{sum_none, sum_plus_one}
 use Rattle.test_lines.specs.Numbers.{number_at, differing}
 
 module _ {A : Type 0} where
+  -- beyond the end there is the default
+  pub beyond : (l : List A) (d : A) (n : ℕ) → length l ≤ n → d ≡ get_or l n d
+  beyond l d n h = sym (get_or-eq_default l d {n = n} h)
+
   -- ---- the first n, or all where there are fewer
 
   module _ (k n : ℕ) (l : List A) (e : k ≡ min n (length l)) where
@@ -60,7 +64,20 @@ module _ {A : Type 0} where
       (λ t. let none : n ≡ 0 = omega (arith, leb-false _ _ t, e, f) in
       front ∙ ap (λ (i : ℕ). sets l k (take i vs)) none ∙ sym (sets_out vs l at (omega (arith, leb-false _ _ t))))
 
+  -- one word more
+  pub sets_more : (l s t : List A) (at : ℕ) (xs : List A) (i : ℕ) (d : A) → i < length xs → s ≡ sets l at (take i xs) → t ≡ set s (at + i) (get_or xs i d)
+      → t ≡ sets l at (take (i + 1) xs)
+  sets_more l s t at xs i d h e f =
+      let k : length (take i xs) ≡ i = length-take-le i xs (omega arith) in
+      let v = get_or xs i d in
+      let last : sets l at (take i xs ++ v ∷ []) ≡ set (sets l at (take i xs)) (at + length (take i xs)) v = sets_append (take i xs) (v ∷ []) l at in
+      rw (f, e, add-one i, take-suc xs i d h) (sym (last ∙ ap (λ (n : ℕ). set (sets l at (take i xs)) (at + n) v) k))
+
 -- ---- words that differ
+
+pub at_most_one : (b : Bool) → bool_byte b ≤ 1
+at_most_one true = omega arith
+at_most_one false = omega arith
 
 module _ (a : List ℕ) (i : ℕ) (b : List ℕ) (j : ℕ) where
   pub differing_none : 0 ≡ differing a i b j 0
@@ -71,3 +88,9 @@ module _ (a : List ℕ) (i : ℕ) (b : List ℕ) (j : ℕ) where
       → count + bool_byte (not (eqb (number_at (drop i a) k) (number_at (drop j b) k))) ≡ differing a i b j (k + 1)
   unfolding differing
   differing_more k count e = rw (get_or-drop, get_or-drop, e, byte_one) (sym (sum_plus_one k _))
+
+  -- the same by the words themselves
+  pub differing_more_at : (k count x y : ℕ) → x ≡ number_at a (i + k) → y ≡ number_at b (j + k) → count ≡ differing a i b j k
+      → count + bool_byte (not (eqb x y)) ≡ differing a i b j (k + 1)
+  unfolding differing
+  differing_more_at k count x y p q e = rw (p, q, e, byte_one) (sym (sum_plus_one k _))

@@ -7,10 +7,12 @@ mod score;
 
 use play::Replay;
 use score::Score;
-use std::{fs, io};
+use std::io;
 
-// The most numbers of a line.
+// The most numbers of a line, and the bytes of the list.
 const NUMBERS: usize = 17856;
+
+const LIST: usize = 1048576;
 
 // The numbers of a line with n entries, where a ledger has room for as many.
 fn entries(n: u64) -> Option<u64> {
@@ -61,7 +63,7 @@ fn compared(rt: &impl Print, words: &str, score: &Score, letter: u8) -> io::Resu
 }
 
 fn main(rt: HostRuntime) -> io::Result<()> {
-    let list = fs::read(&rt, "answers.txt")?;
+    let list = test_lines::read(&rt, "answers.txt", LIST)?;
     let mut replay = Replay::new(rt.alloc())?;
     let mut score = Score::none();
     for text in list.split_inclusive(|b| *b == b'\n') {

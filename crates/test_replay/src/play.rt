@@ -14,7 +14,8 @@ const SUMS: usize = 1525;
 
 const BLOCKS: usize = 1440;
 
-// What is known between two lines: the map that they have set, and the ledger. The buffers are each call's.
+// What is known between two lines: the map that they have set, and the ledger. Each call is lent the buffers as
+// the last one left them: its answer does not depend on what stands in them.
 #[derive(Drop)]
 pub struct Replay {
     pub board: Board,

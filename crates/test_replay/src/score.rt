@@ -7,7 +7,7 @@ pub struct Seen {
 
 // What was seen of the list: the lines by their letter, those not of the format, and whether the last one is the list's
 // end.
-#[derive(Drop)]
+#[derive(Clone, Copy)]
 pub struct Score {
     pub seen: [Seen; 256],
     pub lines: u64,

@@ -1,7 +1,7 @@
 -- The words of a ledger: which fit, the ledger that they give, and the words that a ledger gives.
 use Prim.Native.Nat.{ℕ, ◌+◌, ◌*◌, ◌^◌, ◌≤◌, ◌<◌}
 use mathlib.Core.Path.{◌≡◌, refl, sym, ap, ◌∙◌}
-use mathlib.Core.Bool.{true, false, ◌&&◌}
+use mathlib.Core.Bool.{Bool, true, false, ◌&&◌}
 use mathlib.Core.List.{List, [], ◌∷◌, ◌++◌, append-nil, append_assoc}
 use native.Mathlib.Omega.{arith}
 use native.Mathlib.Nat.{le_of_eq}
@@ -15,7 +15,7 @@ use Rattle.lists.specs.Front.{onto, over}
 use Rattle.lists.proofs.Bools.{and_left, and_right, cases, cond_true}
 use Rattle.lists.proofs.All.{all_at}
 use Rattle.lists.proofs.Folds.{concat_more}
-use Rattle.lists.proofs.Fronts.{onto_append}
+use Rattle.lists.proofs.Fronts.{length_onto, onto_append}
 use Rattle.grid.specs.declared.Grid.{Grid}
 use Rattle.ledger.specs.declared.Entry.{Entry}
 use Rattle.ledger.specs.declared.Ledger.{Ledger}
@@ -23,7 +23,7 @@ use Rattle.ledger.specs.Ledger.{capacity, ledger_in_order}
 use Rattle.ledger.proofs.Places.{order_beyond}
 use Rattle.ledger.specs.State.{fresh_ledger, blank}
 use Rattle.words.specs.Words.{entry_words, ledger_words, ledger_length, word_at, place_at, read_ledger, place_fits, ledger_fits, unreadable, ledger_of}
-use Rattle.words.proofs.General.{over_whole, onto_whole, onto_taken, length_fours}
+use Rattle.words.proofs.General.{over_whole, onto_whole, onto_taken, length_fours, first_no_lem, second_no, last_left}
 
 pub fresh_length : length fresh_ledger.places ≡ capacity
 unfolding fresh_ledger
@@ -53,6 +53,18 @@ module _ (words : List ℕ) where
   module _ (i : ℕ) where
     abbrev at : ℕ
     at = 1 + 4 * i
+
+    pub km_unfit : ltb (word_at words at) (2 ^ 32) ≡ false → false ≡ place_fits words i
+    unfolding place_fits
+    km_unfit e = first_no_lem (ltb (word_at words at) (2 ^ 32)) (ltb (word_at words (at + 1)) (2 ^ 32)) (ltb (word_at words (at + 2)) (2 ^ 32)) e
+
+    pub row_unfit : ltb (word_at words (at + 1)) (2 ^ 32) ≡ false → false ≡ place_fits words i
+    unfolding place_fits
+    row_unfit e = second_no (ltb (word_at words at) (2 ^ 32)) (ltb (word_at words (at + 1)) (2 ^ 32)) (ltb (word_at words (at + 2)) (2 ^ 32)) e
+
+    pub col_decides : (r : Bool) → ltb (word_at words at) (2 ^ 32) ≡ true → ltb (word_at words (at + 1)) (2 ^ 32) ≡ true → r ≡ ltb (word_at words (at + 2)) (2 ^ 32) → r ≡ place_fits words i
+    unfolding place_fits
+    col_decides r e f g = last_left (ltb (word_at words at) (2 ^ 32)) (ltb (word_at words (at + 1)) (2 ^ 32)) (ltb (word_at words (at + 2)) (2 ^ 32)) r e f g
 
     module _ (e : place_fits words i ≡ true) where
       pub km_fits : word_at words at < 2 ^ 32
@@ -114,6 +126,9 @@ module _ (w : List ℕ) (es : List Entry) (long : length w ≡ ledger_length) (w
   pub write_none : w ≡ onto (up_to w es 0) w
   unfolding onto concat_each
   write_none = rw (append-nil (take 1 w)) (sym (onto_taken 1 w (omega (arith, long))))
+
+  pub length_written : (i : ℕ) (s : List ℕ) → i ≤ capacity → s ≡ onto (up_to w es i) w → length s ≡ ledger_length
+  length_written i s h e = ap length e ∙ length_onto (up_to w es i) w (omega (arith, long, length_up_to i h)) ∙ long
 
   -- the words of the next place
   pub write_next : (s : List ℕ) (i : ℕ) (d : Entry) → i < capacity → s ≡ onto (up_to w es i) w

@@ -6,10 +6,10 @@ use Rattle.job_lines.specs.Line.{refused_word, newline, refused_line}
 use Rattle.job_lines.proofs.text.refused_line.Goals as goal
 
 pub end_line-requires : goal.end_line-requires
-end_line-requires c = omega (arith, begun_len c.begin_line.result refused_word (c.number.result ∷ []) (rw c.from.ensures at c.begin_line.ensures))
+end_line-requires c = omega (arith, begun_len c.begin_line.result refused_word (c.args.number ∷ []) (rw c.from.ensures at c.begin_line.ensures))
 
 pub returns : goal.returns
 unfolding refused_line
 returns c =
     let begun = c.begin_line in
-    rw (← c.number.ensures) (line_then c.end_line.result begun.result _ newline c.end_line.ensures (rw c.from.ensures at begun.ensures) (omega (arith, length_refused c.number.result)))
+    line_then c.end_line.result begun.result _ newline c.end_line.ensures (rw c.from.ensures at begun.ensures) (omega (arith, length_refused c.args.number))

@@ -9,7 +9,7 @@ abbrev pub invariant-loop-row : goal.invariant-loop-row
 invariant-loop-row l = record {
   from : l.initial.row ≤ l.row;
   to : l.row ≤ l.kernel.end;
-  summed : l.population ≡ sum_below l.row (reach_people (table_map l.table.grid l.table.sums.now) l.col l.kernel.reach);
+  summed : l.population ≡ sum_below l.row (reach_people (table_map l.summed.table.grid l.summed.table.sums.now) l.col l.kernel.reach);
 }
 
 abbrev pub decreases-loop-row : goal.decreases-loop-row

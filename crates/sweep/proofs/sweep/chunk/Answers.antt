@@ -9,12 +9,13 @@ use Rattle.grid.specs.declared.Cell.{Cell}
 use Rattle.grid.specs.Map.{Map}
 use Rattle.grid.specs.declared.Globe.{Globe}
 use Rattle.sums.specs.State.{table_map}
+use Rattle.table.specs.declared.Table.{Table}
 use Rattle.circle_cells.specs.Circle.{population}
 use Rattle.kernel.specs.declared.Kernel.{Kernel}
 use Rattle.kernel.specs.Kernel.{kernel_population}
-use Rattle.kernel.specs.State.{KernelAt}
+use Rattle.kernel.specs.State.{KernelAt, rows_only}
 use Rattle.kernel.specs.Requires.{CanSum}
-use Rattle.kernel.proofs.Placing.{kernel_own, kernel_kept}
+use Rattle.kernel.proofs.Placing.{rows_placed, kernel_own, kernel_kept}
 use Rattle.circle_cells.proofs.Populations.{same_population}
 use Rattle.lists.proofs.Bools.{of_true}
 use Rattle.blocks.specs.declared.Block.{Block}
@@ -53,6 +54,9 @@ module _ (h : After-odd_columns) where
   abbrev the_map : Map
   the_map = summed_lent h.args.map.now
 
+  abbrev table : Table
+  table = h.table_of-table.result
+
   abbrev ready : Ready globe.grid globe.angles.now globe.cosines.now h.args.map.now.sums.now
   ready = h.args.map.now.ready
 
@@ -70,11 +74,13 @@ module _ (h : After-odd_columns) where
 
   -- a kernel of the probe's row: it can be summed around the probe, to the people of the probe's circle
   module _ (km : Float) (k : Kernel) (is : KernelAt the_map.globe (probe block_of).row km k) where
-    can_sum : CanSum globe.grid k h.probe-p.result.col
-    can_sum = probe_placed _ _ _ _ ready block_of rectangle h.probe-p.result h.probe-p.ensures km k is
+    can_sum : CanSum table.grid (rows_only k) h.probe-p.result.col
+    can_sum = rw h.table_of-table.ensures (rows_placed (probe_placed _ _ _ _ ready block_of rectangle h.probe-p.result h.probe-p.ensures km k is))
 
-    people : kernel_population (table_map globe.grid h.args.map.now.sums.now) k h.probe-p.result.col ≡ population the_map km (probe block_of)
-    people = probe_people _ _ _ _ ready block_of rectangle h.probe-p.result h.probe-p.ensures km k is
+    people : kernel_population (table_map table.grid table.sums.now) k h.probe-p.result.col ≡ population the_map km (probe block_of)
+    people =
+        ap (λ (t : Table). kernel_population (table_map t.grid t.sums.now) k h.probe-p.result.col) h.table_of-table.ensures
+        ∙ probe_people _ _ _ _ ready block_of rectangle h.probe-p.result h.probe-p.ensures km k is
 
   -- ---- the wide kernels, either of which is the block's own once it is built or kept
 
@@ -83,7 +89,7 @@ module _ (h : After-odd_columns) where
 
   -- the radius and the people of a kernel that is the block's own
   is_wide : (k : Kernel) → k ≡ wide_kernel the_map.globe h.args.km block_of → (n : ℕ)
-      → n ≡ kernel_population (table_map globe.grid h.args.map.now.sums.now) k h.probe-p.result.col → IsWide (k.km, n)
+      → n ≡ kernel_population (table_map table.grid table.sums.now) k h.probe-p.result.col → IsWide (k.km, n)
   is_wide k own n e = (wide_radius_lem _ _ block_of k own, e ∙ people _ k (wide_at _ _ block_of k own))
 
   abbrev ServesNow : Kept → Type 0
@@ -101,6 +107,9 @@ module _ (h : After-odd_columns) where
 
 pub build-exact-requires : goal.build-exact-requires
 build-exact-requires c = middle_on _ _ (ready_sheet _ _ _ _ c.args.map.now.ready)
+
+pub invariant_of-summed : goal.invariant_of-summed
+invariant_of-summed c = record { summed = rw c.table_of-table.ensures c.args.map.now.ready.table }
 
 pub loop-word-init : goal.loop-word-init
 loop-word-init c =
