@@ -11,7 +11,7 @@ use Rattle.grid.specs.declared.Grid.{Grid}
 use Rattle.grid.specs.declared.Row.{Row}
 use Rattle.grid.specs.Grid.{on_grid, closing, row_found, col_found}
 use Rattle.grid.proofs.CellOrder.{cell_path}
-use Rattle.grid.proofs.Found.{row_on, row_off}
+use Rattle.grid.proofs.Found.{row_on, row_off, col_on, col_off}
 use Rattle.job_sizes.specs.declared.AngleIndices.{AngleIndices}
 use Rattle.job_sizes.specs.Sizes.{row_on_grid, angle_on, cell_found, angle_found}
 
@@ -57,15 +57,6 @@ module _ (g : Grid) (centre row : Row) (offset : ℕ) where
   angle_none e = cond_none _ _ e
 
 -- ---- C's cell and A's rows and offset, by what the grid has of each
-
-module _ (g : Grid) (i : ℕ) where
-  col_on : (c : Col) → col_found g i ≡ Some c → (ltb i g.width ≡ true) × (i ≡ c.0)
-  unfolding col_found
-  col_on c e = let p = cond_some _ _ _ e in (p.0, cc)
-
-  col_off : col_found g i ≡ None → ltb i g.width ≡ false
-  unfolding col_found
-  col_off e = cond_none _ _ e
 
 module _ (g : Grid) (x : Cell) where
   pub no_row : row_found g x.row.0 ≡ None → None ≡ cell_found g x

@@ -1,4 +1,4 @@
--- A ledger has 512 places: what its type says of the array, as a length.
+-- A ledger has as many places as its capacity: what its type says of the array, as a length.
 use mathlib.Core.Path.{◌≡◌}
 use mathlib.Core.List.{List}
 use lib.ListN.{length}

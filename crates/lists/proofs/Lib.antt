@@ -11,3 +11,4 @@ pub mod Insertion
 pub mod Groups
 pub mod Joins
 pub mod Counts
+pub mod Taken

@@ -1,6 +1,6 @@
 -- The smallest-radius call: what its questions have passed, and what an answer and a refusal leave.
-use Prim.Native.Nat.{ℕ, zero, suc}
-use mathlib.Core.Path.{◌≡◌, refl, sym}
+use Prim.Native.Nat.{ℕ}
+use mathlib.Core.Path.{◌≡◌, refl}
 use mathlib.Core.Bool.{true}
 use mathlib.Core.List.{List}
 use Rattle.std.specs.Prelude.{Ok, Err}
@@ -11,7 +11,7 @@ use Rattle.grid.specs.declared.refusal.Refusal.{Refusal}
 use Rattle.grid.specs.Refusal.{refusal_number}
 use Rattle.grid.specs.Answer.{first_no, refused, decide, after, shown}
 use Rattle.grid.specs.Questions.{map_questions}
-use Rattle.grid.proofs.Answers.{PassedCall, after_map, map_then, decide_yes, decide_no, not_answered, refused_stands, refused_alike}
+use Rattle.grid.proofs.Answers.{PassedCall, after_map, map_then, decide_yes, refused_before, refused_alike}
 use Rattle.sums.specs.Sums.{filled_sums}
 use Rattle.spacing.specs.declared.Spacing.{Spacing}
 use Rattle.most_populous.specs.Call.{Buffers, buffers_after}
@@ -25,12 +25,6 @@ use Rattle.smallest_rules.specs.State.{IsSettled}
 
 -- ---- the questions
 
--- a decision that refuses does so by its own number
-refused_as : (n k : ℕ) → refused n ≡ decide k (tt {0}) → n ≡ k
-unfolding decide
-refused_as n zero e = absurd (not_answered n (tt {0}) e)
-refused_as n (suc k) e = cc
-
 module _ (m : Map) (spacing : Spacing) (share : Float) (l : Ledger) (lent : Buffers) where
   pub smallest_passed : first_no (smallest_questions m spacing share l lent) ≡ 0 → PassedCall m (smallest_own m.globe.grid spacing share l lent)
   unfolding smallest_questions own_questions
@@ -39,10 +33,7 @@ module _ (m : Map) (spacing : Spacing) (share : Float) (l : Ledger) (lent : Buff
   -- a refusal by the map's questions stands; without one the call's own decide
   pub map_refused : {n : ℕ} → n ≡ first_no (map_questions m) → (n ≡ 0 → ⊥) → n ≡ first_no (smallest_questions m spacing share l lent)
   unfolding smallest_questions
-  map_refused {n} e h =
-      let own = smallest_own m.globe.grid spacing share l lent in
-      let before : refused n ≡ decide (first_no (map_questions m)) (tt {0}) = sym (decide_no n (first_no (map_questions m)) (tt {0}) e h) in
-      refused_as n _ (refused_stands (map_questions m) own (tt {0}) before)
+  map_refused e h = refused_before (map_questions m) (smallest_own m.globe.grid spacing share l lent) e h
 
   pub own_asked : {n : ℕ} → first_no (map_questions m) ≡ 0 → n ≡ first_no (smallest_own m.globe.grid spacing share l lent)
       → n ≡ first_no (smallest_questions m spacing share l lent)

@@ -8,7 +8,7 @@ use native.Mathlib.Nat.{le_of_eq, min-eq_left}
 use lib.ListN.{length, take, drop, length-take, take-append-drop, set, length-append, drop_of_length-le}
 use Rattle.lists.specs.Front.{tabulate, onto, over}
 use Rattle.lists.specs.Lists.{concat_each}
-use Rattle.lists.proofs.Fronts.{onto_snoc}
+use Rattle.lists.proofs.Fronts.{onto_step}
 
 module _ {A : Type 0} where
   pub over_whole : (f : ℕ → A) (n : ℕ) (l : List A) → length l ≡ n → over f n l ≡ tabulate f n
@@ -23,21 +23,17 @@ module _ {A : Type 0} where
   unfolding onto
   onto_taken n l h = let long : length (take n l) ≡ n = length-take n l ∙ min-eq_left h in rw long (take-append-drop n l)
 
-  -- one store after the front
-  one_store : (xs ys l s : List A) (v : A) (n : ℕ) → s ≡ onto xs l → n ≡ length xs → n < length l → ys ≡ xs ++ v ∷ [] → set s n v ≡ onto ys l
-  one_store xs ys l s v n e k h f = rw (e, f) (onto_snoc xs l v n k h)
-
   -- four stores one after the other append four elements
   pub onto_four : (xs l s : List A) (a b c d : A) (n : ℕ) → s ≡ onto xs l → n ≡ length xs → n + 3 < length l
       → set (set (set (set s n a) (n + 1) b) (n + 2) c) (n + 3) d ≡ onto (xs ++ a ∷ b ∷ c ∷ d ∷ []) l
   onto_four xs l s a b c d n e k h =
-      let one = one_store xs (xs ++ a ∷ []) l s a n e k (omega arith) refl in
+      let one = onto_step xs (xs ++ a ∷ []) l s a n e k (omega arith) refl in
       let l1 : length (xs ++ a ∷ []) ≡ length xs + 1 = length-append xs (a ∷ []) in
-      let two = one_store (xs ++ a ∷ []) (xs ++ a ∷ b ∷ []) l (set s n a) b (n + 1) one (omega arith) (omega arith) (sym (append_assoc xs (a ∷ []) (b ∷ []))) in
+      let two = onto_step (xs ++ a ∷ []) (xs ++ a ∷ b ∷ []) l (set s n a) b (n + 1) one (omega arith) (omega arith) (sym (append_assoc xs (a ∷ []) (b ∷ []))) in
       let l2 : length (xs ++ a ∷ b ∷ []) ≡ length xs + 2 = length-append xs (a ∷ b ∷ []) in
-      let three = one_store (xs ++ a ∷ b ∷ []) (xs ++ a ∷ b ∷ c ∷ []) l _ c (n + 2) two (omega arith) (omega arith) (sym (append_assoc xs (a ∷ b ∷ []) (c ∷ []))) in
+      let three = onto_step (xs ++ a ∷ b ∷ []) (xs ++ a ∷ b ∷ c ∷ []) l _ c (n + 2) two (omega arith) (omega arith) (sym (append_assoc xs (a ∷ b ∷ []) (c ∷ []))) in
       let l3 : length (xs ++ a ∷ b ∷ c ∷ []) ≡ length xs + 3 = length-append xs (a ∷ b ∷ c ∷ []) in
-      one_store (xs ++ a ∷ b ∷ c ∷ []) (xs ++ a ∷ b ∷ c ∷ d ∷ []) l _ d (n + 3) three (omega arith) (omega arith) (sym (append_assoc xs (a ∷ b ∷ c ∷ []) (d ∷ [])))
+      onto_step (xs ++ a ∷ b ∷ c ∷ []) (xs ++ a ∷ b ∷ c ∷ d ∷ []) l _ d (n + 3) three (omega arith) (omega arith) (sym (append_assoc xs (a ∷ b ∷ c ∷ []) (d ∷ [])))
 
   -- and stand in place of the four that were there
   pub set_four : (s : List A) (a b c d : A) (n : ℕ) → n + 3 < length s → set (set (set (set s n a) (n + 1) b) (n + 2) c) (n + 3) d ≡ take n s ++ a ∷ b ∷ c ∷ d ∷ [] ++ drop (n + 4) s
